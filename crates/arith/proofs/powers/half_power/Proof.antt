@@ -1,0 +1,22 @@
+use borrow.Author.Needs.{needs}
+use Rattle.arith.proofs.powers.half_power.Statement.{statement}
+use Rattle.arith.proofs.powers.half_power.Tie as tie
+use Rattle.arith.proofs.powers.half_power.Reads as reads
+use Rattle.arith.proofs.powers.half_power.Lts as lts
+use Rattle.arith.proofs.power.Reads as power-reads
+use Rattle.arith.proofs.sqrt.Reads as sqrt-reads
+
+-- src/lib.rt:107:5
+sqrt-requires : tie.Need-sqrt-requires
+sqrt-requires c κs = search needs
+
+-- src/lib.rt:107:15
+power-requires : tie.Need-power-requires
+power-requires c κs = search needs
+
+-- src/lib.rt:104:1
+returns : tie.Need-returns
+returns c = cc
+
+pub half-power-spec : {M : Type 1} → statement M
+half-power-spec = tie.close (tie.spec sqrt-requires power-requires returns)

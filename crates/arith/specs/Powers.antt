@@ -1,0 +1,14 @@
+-- Document 01's power rule. Definitions only.
+use Prim.Native.Nat.{ℕ, zero, suc}
+use lib.Ieee.{Float}
+use Rattle.arith.specs.Double.{_⊗_, #1}
+use Rattle.arith.specs.Root.{sqrt}
+
+-- 1 multiplied k times by y, each product rounded
+unfoldable pub power : Float → ℕ → Float
+power y zero = #1
+power y (suc k) = power y k ⊗ y
+
+-- y to the power k + 1/2: the square root times the whole power below
+abbrev pub halfPower : Float → ℕ → Float
+halfPower y k = sqrt y ⊗ power y k

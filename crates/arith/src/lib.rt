@@ -1,0 +1,14 @@
+// The arithmetic beneath the modes. Every function here is total and equals its definition in
+// specs/; the crates above know it by these contracts only.
+mod choice;
+mod powers;
+mod root;
+mod truncation;
+
+pub use choice::abs;
+pub use choice::greater;
+pub use choice::lesser;
+pub use powers::half_power;
+pub use powers::power;
+pub use root::sqrt;
+pub use truncation::truncate;
