@@ -1,3 +1,5 @@
--- What the proofs of more than one module use.
+-- What the proofs of more than one module use, and `Laws.antt` for the crates above.
 pub mod Flags
+pub mod Numbers
 pub mod Fields
+pub mod Laws

@@ -6,3 +6,4 @@ pub mod Unpack
 pub mod Pack
 pub mod Radicand
 pub mod Nearest
+pub mod Unique

@@ -2,7 +2,7 @@
 use Prim.Native.Nat.{ℕ}
 use mathlib.Core.List.{List}
 use lib.IntN.{pos}
-use lib.Ieee.{Float, nan, binary64, add, sub, mul, div, ofBits, ofInt}
+use lib.Ieee.{Float, nan, binary64, add, sub, mul, div, ofBits, toBits, ofInt}
 use lib.ListN.{getD}
 
 infixl 65 _⊕_
@@ -25,9 +25,13 @@ x ⊘ y = div binary64 x y
 abbrev pub dbl : ℕ → Float
 dbl n = ofInt binary64 (pos n)
 
--- the double with this bit pattern
+-- the double with this bit pattern: for every NaN pattern `nan`
 abbrev pub bits : ℕ → Float
 bits b = ofBits binary64 b
+
+-- the bit pattern of a double; 7ff8_0000_0000_0000 for `nan`
+abbrev pub bitsOf : Float → ℕ
+bitsOf x = toBits binary64 x
 
 -- the double at index i of a list. No code reads past the end, where this is `nan`
 abbrev pub at : List Float → ℕ → Float

@@ -4,7 +4,7 @@ use mathlib.Core.List.{List, [], _∷_, map}
 use mathlib.Core.Bool.{false}
 use Prim.Native.Nat.{ℕ, _^_}
 use lib.Ieee.{Float, binary64, round, ofBits, toBits}
-use Rattle.arith.specs.Double.{bits, #0, #0·5, #1, #1·5, #2, #3, #4, #5, #1e-280, #1e-200, #1e-100, #1e-30, #1e-14, #1e-10, #1e100, #1e300}
+use Rattle.arith.specs.Double.{bits, bitsOf, #0, #0·5, #1, #1·5, #2, #3, #4, #5, #1e-280, #1e-200, #1e-100, #1e-30, #1e-14, #1e-10, #1e100, #1e300}
 use Rattle.arith.specs.Root.{sqrt}
 
 -- ---- roots
@@ -42,7 +42,7 @@ roots =
     []
 
 -- the roots of the first numbers are the second numbers
-pub roots-right : map (λ (row : ℕ × ℕ). toBits binary64 (sqrt (bits (row .0)))) roots ≡ map (λ (row : ℕ × ℕ). row .1) roots
+pub roots-right : map (λ (row : ℕ × ℕ). bitsOf (sqrt (bits (row .0)))) roots ≡ map (λ (row : ℕ × ℕ). row .1) roots
 unfolding sqrt toBits ofBits
 roots-right = refl
 

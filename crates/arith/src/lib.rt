@@ -1,6 +1,7 @@
 // The arithmetic beneath the modes. Every function here is total and equals its definition in
 // specs/; the crates above know it by these contracts only.
 mod choice;
+mod pattern;
 mod powers;
 mod root;
 mod truncation;
@@ -8,6 +9,8 @@ mod truncation;
 pub use choice::abs;
 pub use choice::greater;
 pub use choice::lesser;
+pub use pattern::from_bits;
+pub use pattern::to_bits;
 pub use powers::half_power;
 pub use powers::power;
 pub use root::sqrt;

@@ -5,12 +5,10 @@ use Prim.Native.Nat.{ℕ, zero, suc, _+_, _-_, _*_, _/_, _%_, _^_, _<_}
 use native.Mathlib.Omega.{arith}
 use lib.Dec.{T, leb, ltb, eqb}
 use lib.Bits.{bitAnd, and-mask}
-use lib.Ieee.{Float, nan, inf, fin, binary64, odd, ofFields, ofBits, toBits, nanBits, isNan, eq, ne, fits}
+use lib.Ieee.{Float, nan, inf, binary64, odd, ofFields, ofBits, toBits, nanBits, isNan, fits}
 use lib.Ieee.Bits.{ofBits-toBits, nanBits-is, nanBits-above}
-use lib.Ieee.Compare.{differs-from-itself}
 use Rattle.arith.specs.Double.{bits}
 use Rattle.arith.specs.Choice.{abs}
-use Rattle.arith.proofs.Flags.{not-taken}
 use Rattle.arith.proofs.Fields.{bits-fields, bits-unsigned}
 
 abs-odd : (d : ℕ) (s : Bool) (q k l : ℕ) → abs (odd d s q k l) ≡ odd d false q k l
@@ -43,19 +41,9 @@ cleared b =
 pub mask : (b : ℕ) → bitAnd b (2 ^ 63 - 1) ≡ b % 2 ^ 63
 mask b = and-mask b 63
 
--- ---- a double that equals itself is no NaN
-pub no-nan : (x : Float) → eq x x ≡ true → T (not (isNan x))
-unfolding eq isNan
-no-nan nan e = not-taken e
-no-nan (inf s) e = tt
-no-nan (fin s m e) p = tt
-
-pub only-nan : (x : Float) → eq x x ≡ false → x ≡ abs x
-unfolding abs ne
-only-nan x e = is ∙ sym (ap abs is)
-  where
-    is : x ≡ nan
-    is = differs-from-itself x (subst T (sym (ap not e)) tt)
+pub abs-nan : (x : Float) → x ≡ nan → x ≡ abs x
+unfolding abs
+abs-nan x is = is ∙ sym (ap abs is)
 
 module _ (x : Float) (held : T (fits binary64 x)) where
   pub cleared-is : bits (bitAnd (toBits binary64 x) (2 ^ 63 - 1)) ≡ abs x

@@ -1,0 +1,61 @@
+-- Laws of the definitions, for the crates above. Assumes nothing.
+use mathlib.Core.Path.{_≡_, refl, sym, ap, subst, _∙_}
+use mathlib.Core.Logic.{_⊎_, inl, inr}
+use mathlib.Core.Bool.{Bool, true, false, cond}
+use Prim.Native.Nat.{ℕ, _+_, _-_, _*_, _/_, _^_, _≤_, _<_, min}
+use native.Mathlib.Nat.{zero-div, mul-one, mul-right-comm, div-lt-iff-lt-mul, lt-of-mul-lt-mul-right}
+use native.Mathlib.Omega.{arith}
+use borrow.Author.Tests.{ltb-true, ltb-false}
+use lib.IntN.{pos, negℤ}
+use lib.Ieee.{Float, nan, inf, fin, up, down, lt, neg, toSigned, ofBits}
+use lib.Ieee.Exact.{HasValue}
+use lib.Ieee.Fits.{down-pos}
+use Rattle.arith.specs.Double.{#0}
+use Rattle.arith.specs.Truncation.{truncate}
+use Rattle.arith.specs.Choice.{abs, lesser, greater}
+use Rattle.arith.proofs.Flags.{not-taken, not-left}
+
+-- ---- truncation
+
+-- From zero on and below a double that is the whole number b, the whole part is a whole number below b. (-0 is not below zero.)
+pub truncate-below : (x y : Float) (b : ℕ) → HasValue y false b 1 → 0 < b → b ≤ 2 ^ 31 → lt x #0 ≡ false → lt x y ≡ true → (t : ℕ) × (truncate x ≡ pos t) × (t < b)
+unfolding lt toSigned ofBits
+truncate-below x nan b v B h p q = absurd v
+truncate-below x (inf s) b v B h p q = absurd v
+truncate-below nan (fin s n d) b v B h p q = not-taken q
+truncate-below (inf true) (fin s n d) b v B h p q = not-left p
+truncate-below (inf false) (fin s n d) b v B h p q = not-taken q
+truncate-below (fin true m e) (fin s n d) b v B h p q = (0, ap (λ (c : ℕ). negℤ (pos (min c (2 ^ 31)))) (ap (λ (a : ℕ). a / down e) (none (m * up e) (0 * 1 * down e) (rw mul-one at (ltb-false 0 (m * up e * 1 + 0 * 1 * down e) p))) ∙ zero-div (down e)), B)
+  where
+    none : (a z : ℕ) → a + z ≤ 0 → a ≡ 0
+    none a z l = omega arith
+truncate-below (fin false m e) (fin true n d) b v B h p q = not-left (v .0)
+truncate-below (fin false m e) (fin false n d) b v B h p q =
+    let c = m * up e / down e in
+    let l : c < b = div-lt-iff-lt-mul (down-pos e) .1 (lt-of-mul-lt-mul-right (down d) (subst (λ (z : ℕ). m * up e * down d < z) (over ∙ mul-right-comm b (down d) (down e)) (ltb-true (m * up e * down d) (n * up d * down e) q))) in
+    (c, ap pos (small c l), l)
+  where
+    over : n * up d * down e ≡ b * down d * down e
+    over = ap (λ (z : ℕ). z * down e) (sym (mul-one (n * up d)) ∙ v .1)
+
+    small : (c : ℕ) → c < b → min c (2 ^ 31 - 1) ≡ c
+    small c l = omega arith
+
+-- ---- choice
+pub abs-neg : (x : Float) → abs (neg x) ≡ abs x
+unfolding abs neg
+abs-neg nan = refl
+abs-neg (inf s) = refl
+abs-neg (fin s m e) = refl
+
+either : (t : Bool) (a b : Float) → (cond t b a ≡ a) ⊎ (cond t b a ≡ b)
+either true a b = inr refl
+either false a b = inl refl
+
+pub lesser-either : (a b : Float) → (lesser a b ≡ a) ⊎ (lesser a b ≡ b)
+unfolding lesser
+lesser-either a b = either (lt b a) a b
+
+pub greater-either : (a b : Float) → (greater a b ≡ a) ⊎ (greater a b ≡ b)
+unfolding greater
+greater-either a b = either (lt a b) a b
