@@ -25,7 +25,7 @@ truncate-below x (inf s) b v B h p q = absurd v
 truncate-below nan (fin s n d) b v B h p q = not-taken q
 truncate-below (inf true) (fin s n d) b v B h p q = not-left p
 truncate-below (inf false) (fin s n d) b v B h p q = not-taken q
-truncate-below (fin true m e) (fin s n d) b v B h p q = (0, ap (λ (c : ℕ). negℤ (pos (min c (2 ^ 31)))) (ap (λ (a : ℕ). a / down e) (none (m * up e) (0 * 1 * down e) (rw mul-one at (ltb-false 0 (m * up e * 1 + 0 * 1 * down e) p))) ∙ zero-div (down e)), B)
+truncate-below (fin true m e) (fin s n d) b v B h p q = (0, ap (λ (c : ℕ). negℤ (pos (min c (2 ^ 31)))) (ap (λ (a : ℕ). a / down e) (none (m * up e) (0 * 1 * down e) (rw (mul-one (m * up e)) at (ltb-false 0 (m * up e * 1 + 0 * 1 * down e) p))) ∙ zero-div (down e)), B)
   where
     none : (a z : ℕ) → a + z ≤ 0 → a ≡ 0
     none a z l = omega arith

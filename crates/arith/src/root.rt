@@ -1,19 +1,43 @@
 // The square root of a double, by whole numbers.
 ghost use mathlib.Core.Path.{_≡_};
-ghost use Prim.Native.Nat.{_*_, _^_, _≤_, _<_};
+ghost use Prim.Native.Nat.{_+_, _*_, _^_, _≤_, _<_};
 ghost use lib.Dec.{T};
 ghost use lib.Ieee.Positive.{positive};
 ghost use Rattle.arith.specs.Root.{floorRoot, nearestRoot, sqrt};
 ghost use Rattle.arith.specs.Scaled.{IsScaled};
 
-// The whole part of n's square root, by Newton's iteration. After the first step the guess g is
-// never below it, and while the square of g is above n a step makes g smaller. The first guess is
-// within 3 in 100, so that three or four steps do; nothing else depends on it.
+// The share t / 2^20 of c.
+fn share(t: u64, c: u64) -> u64
+    requires { ⌜ (t < 2 ^ 20) × (c < 2 ^ 27) ⌝ }
+    ensures { λ r. ⌜ r ≤ c ⌝ }
+{
+    t * c / 0x10_0000
+}
+
+// A number near n's square root, within 2^-15 of it. n is (1 + t / 2^20) * 2^(52 + odd), cut. The
+// root of 1 + t / 2^20 is a polynomial in t, in units of 2^-26, and that of 2 is 1 + 434334 / 2^20.
+// Only speed depends on the numbers.
+fn first_guess(n: u64) -> u64
+    requires { ⌜ (2 ^ 52 ≤ n) × (n < 2 ^ 54) ⌝ }
+    ensures { λ r. ⌜ (2 ^ 26 ≤ r) × (r < 2 ^ 28) ⌝ }
+{
+    let odd = n >> 53;
+    let t = (n >> (32 + odd)) % 0x10_0000;
+    let fourth = share(t, 683977);
+    let third = share(t, 2989018 - fourth);
+    let second = share(t, 8020573 - third);
+    let r = 67109709 + share(t, 33511585 - second);
+    r + share(odd * 434334, r)
+}
+
+// The whole part of n's square root, by Newton's iteration. After the first step g is never below
+// it, and while the square of g is above n a step makes g smaller. After a good guess the first
+// step is mostly the only one.
 fn floor_root(n: u64) -> u64
     requires { ⌜ (2 ^ 52 ≤ n) × (n < 2 ^ 54) ⌝ }
     ensures { λ r. ⌜ r ≡ floorRoot n ⌝ }
 {
-    let guess = n / 201326592 + 46000000;
+    let guess = first_guess(n);
     let mut g = (guess + n / guess) / 2;
     while n < g * g {
         g = (g + n / g) / 2;

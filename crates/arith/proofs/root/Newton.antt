@@ -48,9 +48,9 @@ sq-pos n (suc k) h = zero-lt-suc k
 pub quotient-lt : (n g : ℕ) → n < g * g → n / g < g
 quotient-lt n g h = div-lt-iff-lt-mul (sq-pos n g h) .1 h
 
--- ---- the first guess
-pub first-lt : (n : ℕ) → n < 2 ^ 54 → n / (n / 201326592 + 46000000) < 2 ^ 29
-first-lt n h = div-lt-iff-lt-mul {k = n / 201326592 + 46000000} {x = n} {y = 2 ^ 29} (omega arith) .1 (omega arith)
+-- ---- the first step, from a guess of 2 ^ 26 or more
+pub first-quotient-lt : (n g : ℕ) → n < 2 ^ 54 → 2 ^ 26 ≤ g → n / g < 2 ^ 29
+first-quotient-lt n g h k = div-lt-iff-lt-mul {k = g} {x = n} {y = 2 ^ 29} (omega arith) .1 (omega arith)
 
 -- ---- the square of a sum
 sq-sum : (x l : ℕ) → (x + l) * (x + l) ≡ x * x + (l * x + l * x) + l * l
