@@ -85,22 +85,30 @@ fn chained(f: fn(f64) -> f64, xs: &[f64]) -> f64 {
 }
 
 fn report(name: &str, proved: fn(f64) -> f64, rust: fn(f64) -> f64, xs: &[f64]) {
-    let way: [(&str, fn(fn(f64) -> f64, &[f64]) -> f64); 2] = [("independent", independent), ("chained", chained)];
+    let way: [(&str, fn(fn(f64) -> f64, &[f64]) -> f64); 2] =
+        [("independent", independent), ("chained", chained)];
     for (label, time) in way {
         let (mut ours, mut theirs) = (f64::INFINITY, f64::INFINITY);
         for _ in 0..ROUNDS {
             ours = ours.min(time(proved, xs));
             theirs = theirs.min(time(rust, xs));
         }
-        println!("{name:<10} {label:<12} proved {ours:7.2} ns   Rust {theirs:7.2} ns   ratio {:6.2}", ours / theirs);
+        println!(
+            "{name:<10} {label:<12} proved {ours:7.2} ns   Rust {theirs:7.2} ns   ratio {:6.2}",
+            ours / theirs
+        );
     }
 }
 
 fn main() {
     let mut seed = 1;
     // finite doubles above zero of every exponent, and doubles between 0 and 300
-    let wide: Vec<f64> = (0..CALLS).map(|_| f64::from_bits(random(&mut seed) % 0x7ff0_0000_0000_0000)).collect();
-    let near: Vec<f64> = (0..CALLS).map(|_| (random(&mut seed) >> 11) as f64 / (1u64 << 53) as f64 * 300.0).collect();
+    let wide: Vec<f64> = (0..CALLS)
+        .map(|_| f64::from_bits(random(&mut seed) % 0x7ff0_0000_0000_0000))
+        .collect();
+    let near: Vec<f64> = (0..CALLS)
+        .map(|_| (random(&mut seed) >> 11) as f64 / (1u64 << 53) as f64 * 300.0)
+        .collect();
     report("sqrt", proved_sqrt, rust_sqrt, &wide);
     report("abs", proved_abs, rust_abs, &near);
     report("truncate", proved_truncate, rust_truncate, &near);

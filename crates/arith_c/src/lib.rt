@@ -1,5 +1,6 @@
 // The arithmetic as C and Rust callers link it, for the differential test and the benchmark.
 ghost use mathlib.Core.Path.{_≡_};
+ghost use Rattle.arith.specs.Double.{bits, bitsOf};
 ghost use Rattle.arith.specs.Root.{sqrt};
 ghost use Rattle.arith.specs.Truncation.{truncate};
 ghost use Rattle.arith.specs.Powers.{power, halfPower};
@@ -52,4 +53,18 @@ pub extern "C" fn arith_greater(a: f64, b: f64) -> f64
     ensures { λ r. ⌜ r ≡ greater a b ⌝ }
 {
     arith::greater(a, b)
+}
+
+#[no_mangle]
+pub extern "C" fn arith_to_bits(x: f64) -> u64
+    ensures { λ r. ⌜ r ≡ bitsOf x ⌝ }
+{
+    arith::to_bits(x)
+}
+
+#[no_mangle]
+pub extern "C" fn arith_from_bits(b: u64) -> f64
+    ensures { λ r. ⌜ r ≡ bits b ⌝ }
+{
+    arith::from_bits(b)
 }

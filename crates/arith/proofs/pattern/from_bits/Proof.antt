@@ -1,6 +1,8 @@
 -- `arith::pattern::from_bits` meets its contract: past the infinity's pattern, the sign aside, are the NaNs'. Assumes nothing.
 use mathlib.Core.Path.{_≡_, refl, sym, subst, _∙_}
 use mathlib.Core.Bool.{Bool, true, not}
+use Prim.Native.Nat.{_%_, _*_, _^_}
+use native.Mathlib.Omega.{arith}
 use lib.Dec.{T}
 use lib.Ieee.{Float, nan, inf, fin, binary64, div, isNan, ofBits}
 use lib.Ieee.Bits.{nanBits-is, nanBits-above}
@@ -22,7 +24,9 @@ unfolding div ofBits
 zero-over-zero = refl
 
 float-from-bits-result : tie.Need-float-from-bits-result
-float-from-bits-result c = subst (λ (t : Bool). T (not t)) (sym (nanBits-above binary64 (c .before .args .b) ∙ le-ltb _ _ (c .if1 .taken))) tt
+float-from-bits-result c =
+    let b = c .before .args .b in
+    subst (λ (t : Bool). T (not t)) (sym (nanBits-above binary64 b ∙ le-ltb (2047 * 2 ^ 52) (b % 2 ^ 63) (omega arith))) tt
 
 returns : tie.Need-returns
 returns c = search needs
@@ -30,7 +34,7 @@ returns c = search needs
 returns-2 : tie.Need-returns-2
 returns-2 c =
     let b = c .before .args .b in
-    zero-over-zero ∙ sym (only-nan (bits b) (sym (nanBits-is binary64 b) ∙ nanBits-above binary64 b ∙ lt-ltb _ _ (c .if1 .left)))
+    zero-over-zero ∙ sym (only-nan (bits b) (sym (nanBits-is binary64 b) ∙ nanBits-above binary64 b ∙ lt-ltb (2047 * 2 ^ 52) (b % 2 ^ 63) (omega arith)))
 
 pub from-bits-spec : {M : Type 1} → statement M
 from-bits-spec = tie.close (tie.spec float-from-bits-result returns returns-2)

@@ -1,0 +1,124 @@
+//! The oracle's own checks, which need no program of ours.
+
+use oracle::answer::{Build, aswfa, record_lines, stream_lines};
+use oracle::reading::refusal;
+use oracle::record::{Record, Request, hex, same};
+
+use crate::known::{Input, Known, matches};
+use crate::tally::Tally;
+
+pub struct OwnChecks {
+    pub example: Tally,
+    pub known: Tally,
+    pub rows: Tally,
+    pub builds: Tally,
+}
+
+impl OwnChecks {
+    pub fn new() -> OwnChecks {
+        OwnChecks {
+            example: Tally::new("document 01's example"),
+            known: Tally::new("known answers of traps.txt"),
+            rows: Tally::new("rows: reading and segv agree"),
+            builds: Tally::new("both builds agree at x = 0, -0, 1, -1"),
+        }
+    }
+
+    pub fn tallies(&self) -> [&Tally; 4] {
+        [&self.example, &self.known, &self.rows, &self.builds]
+    }
+
+    pub fn check_example(&mut self) {
+        let printed = stream_lines(Build::PowerRule, &example_stream());
+        self.example.count(printed == EXAMPLE_LINES, || {
+            format!("the oracle prints\n{printed}")
+        });
+    }
+
+    /// Counts nothing where the file gives no answer.
+    pub fn check_known(&mut self, known: &Known) {
+        if known.expected.is_empty() {
+            return;
+        }
+        let printed = match &known.input {
+            Input::Record(record) => record_lines(Build::PowerRule, 0, record),
+            Input::Stream(stream) => stream_lines(Build::PowerRule, stream),
+        };
+        let right = match &known.input {
+            Input::Record(_) => known
+                .expected
+                .iter()
+                .all(|pattern| printed.lines().any(|line| matches(pattern, line))),
+            Input::Stream(_) => printed
+                .lines()
+                .eq(known.expected.iter().map(String::as_str)),
+        };
+        self.known
+            .count(right, || format!("{}\n    oracle:  {printed}", known.text));
+    }
+
+    /// Checks a record that the oracle answered with these lines.
+    pub fn check_record(&mut self, record: &Record, lines: &str) {
+        if refusal(record).is_some() {
+            return;
+        }
+        match Request::of_operation(record.operation) {
+            Some(Request::Angular(_)) => self.check_builds(record),
+            Some(request) if request.is_row() && !lines.starts_with('R') => {
+                self.rows.count(!lines.starts_with('X'), || {
+                    format!("{record}\n    {}", lines.lines().next().unwrap_or_default())
+                });
+            }
+            _ => {}
+        }
+    }
+
+    fn check_builds(&mut self, record: &Record) {
+        let kind = Request::of_operation(record.operation)
+            .expect("an angular record")
+            .kind();
+        let differing = [0.0, -0.0, 1.0, -1.0].into_iter().find(|&x| {
+            let ruled = aswfa(Build::PowerRule, kind, record, x);
+            let unaltered = aswfa(Build::Unaltered, kind, record, x);
+            !ruled
+                .iter()
+                .zip(&unaltered)
+                .all(|(&left, &right)| same(left, right))
+        });
+        self.builds.count(differing.is_none(), || {
+            let x = differing.expect("an x at which the builds differ");
+            let words = |build| aswfa(build, kind, record, x).map(hex).join(" ");
+            format!(
+                "{record}, taken at x = {x:?}\n    power rule: {}\n    unaltered:  {}",
+                words(Build::PowerRule),
+                words(Build::Unaltered)
+            )
+        });
+    }
+}
+
+/// The example that document 01 prints in whole.
+const EXAMPLE_LINES: &str = "\
+V 0 0 0 0000000000000000 0000000000000000 0000000000000000
+V 0 1 0 4000000000000000 4000000000000000 4000000000000000
+V 0 2 0 4018000000000000 4018000000000000 4018000000000000
+A 1 0 0 3ff0000000000000 0000000000000000
+";
+
+fn example_stream() -> Vec<u8> {
+    let angular = Record {
+        operation: 3,
+        m: 0,
+        n: 0,
+        allowance: 0,
+        c: 0.0,
+        cv: 0.0,
+        x: 0.0,
+    };
+    let row = Record {
+        operation: 1,
+        n: 2,
+        ..angular
+    };
+    [row.to_bytes(), angular.to_bytes()].concat()
+}

@@ -1,0 +1,369 @@
+//! Seeded records. The README's table gives the distribution that the weights here make.
+
+use oracle::answer::segv;
+use oracle::reading::{coefficient_refusal, half_offset_plus_c, matrix_terms, needed_allowance};
+use oracle::record::{Record, Request};
+
+use crate::random::Random;
+
+const OPERATIONS: [(u64, u8); 7] = [(13, 1), (13, 2), (24, 3), (24, 4), (14, 5), (6, 6), (6, 7)];
+
+const SPOILED_PERCENT: u64 = 12;
+
+/// How large a mode is: this bounds the cost of a record.
+#[derive(Clone, Copy)]
+enum Size {
+    Small,
+    Medium,
+    HighOrder,
+    Large,
+    Edge,
+}
+
+const SIZES: [(u64, Size); 5] = [
+    (60, Size::Small),
+    (23, Size::Medium),
+    (10, Size::HighOrder),
+    (4, Size::Large),
+    (3, Size::Edge),
+];
+
+#[derive(Clone, Copy)]
+enum Parameter {
+    Zero,
+    BelowTiny,
+    AroundTiny,
+    Small,
+    Whole,
+    Half,
+    BesideHalf,
+    Uniform,
+    Limit,
+}
+
+const PARAMETERS: [(u64, Parameter); 9] = [
+    (6, Parameter::Zero),
+    (3, Parameter::BelowTiny),
+    (4, Parameter::AroundTiny),
+    (13, Parameter::Small),
+    (9, Parameter::Whole),
+    (9, Parameter::Half),
+    (9, Parameter::BesideHalf),
+    (45, Parameter::Uniform),
+    (2, Parameter::Limit),
+];
+
+#[derive(Clone, Copy)]
+enum Value {
+    True,
+    UlpsOff,
+    SlightlyOff,
+    OfNoMode,
+    Whole,
+    Diagonal,
+    Zero,
+    Huge,
+    AnyFinite,
+}
+
+const VALUES: [(u64, Value); 9] = [
+    (48, Value::True),
+    (12, Value::UlpsOff),
+    (9, Value::SlightlyOff),
+    (12, Value::OfNoMode),
+    (6, Value::Whole),
+    (4, Value::Diagonal),
+    (2, Value::Zero),
+    (2, Value::Huge),
+    (5, Value::AnyFinite),
+];
+
+#[derive(Clone, Copy)]
+enum Spoiling {
+    Operation,
+    Mode,
+    ParameterSign,
+    ParameterLimit,
+    Value,
+    Argument,
+    Allowance,
+}
+
+const SPOILINGS: [(u64, Spoiling); 7] = [
+    (12, Spoiling::Operation),
+    (16, Spoiling::Mode),
+    (16, Spoiling::ParameterSign),
+    (20, Spoiling::ParameterLimit),
+    (12, Spoiling::Value),
+    (16, Spoiling::Argument),
+    (8, Spoiling::Allowance),
+];
+
+pub struct Generator {
+    random: Random,
+}
+
+impl Generator {
+    pub fn new(seed: u64) -> Generator {
+        Generator {
+            random: Random::new(seed),
+        }
+    }
+
+    pub fn records(&mut self, count: usize) -> Vec<Record> {
+        (0..count).map(|_| self.record()).collect()
+    }
+
+    fn record(&mut self) -> Record {
+        let mut record = self.sound_record();
+        if self.random.chance(SPOILED_PERCENT) {
+            // More than one fault tests the order of the refusals.
+            let faults = self.random.weighted(&[(70, 1), (20, 2), (10, 3)]);
+            for _ in 0..faults {
+                self.spoil(&mut record);
+            }
+        }
+        record
+    }
+
+    /// A record that no refusal from 3 to 8 turns back.
+    fn sound_record(&mut self) -> Record {
+        let operation = self.random.weighted(&OPERATIONS);
+        let size = self.random.weighted(&SIZES);
+        self.sound_record_of(operation, size)
+    }
+
+    /// A sound record that costs little, of one of these operations.
+    pub fn cheap_record(&mut self, operations: &[u8]) -> Record {
+        let operation = self.random.pick(operations);
+        self.sound_record_of(operation, Size::Small)
+    }
+
+    fn sound_record_of(&mut self, operation: u8, size: Size) -> Record {
+        let request = Request::of_operation(operation).expect("an operation from 1 to 7");
+        let mut record = Record {
+            operation,
+            m: 0,
+            n: 0,
+            allowance: 0,
+            c: 0.0,
+            cv: 0.0,
+            x: self.argument(request),
+        };
+        loop {
+            self.choose_mode(&mut record, request, size);
+            if coefficient_refusal(&record, request).is_none() {
+                break;
+            }
+        }
+        if request.is_row() {
+            record.allowance = self.allowance(&record, request);
+            record.cv = self.random.any_double();
+        } else {
+            record.allowance = self.random.bits() as u16;
+            record.cv = self.characteristic_value(&record, request);
+        }
+        record
+    }
+
+    /// Order, degree and size parameter.
+    fn choose_mode(&mut self, record: &mut Record, request: Request, size: Size) {
+        let random = &mut self.random;
+        let (m, offset, greatest) = match size {
+            Size::Small => (random.between(0, 6), random.between(0, 12), 10.0),
+            Size::Medium => (random.between(0, 40), random.between(0, 40), 50.0),
+            Size::HighOrder => (random.between(0, 199), random.between(0, 12), 20.0),
+            Size::Large => (
+                random.between(0, 199),
+                random.between(0, 199),
+                limit(request),
+            ),
+            Size::Edge => (
+                random.pick(&[0, 1, 2, 3, 174, 175, 198, 199]),
+                random.pick(&[0, 1, 2, 197, 198, 199]),
+                20.0,
+            ),
+        };
+        record.m = m;
+        record.n = m + offset;
+        let parameter = match size {
+            Size::Edge if self.random.chance(30) => Parameter::Limit,
+            _ => self.random.weighted(&PARAMETERS),
+        };
+        record.c = self.size_parameter(parameter, record, request, greatest);
+    }
+
+    fn size_parameter(
+        &mut self,
+        parameter: Parameter,
+        record: &Record,
+        request: Request,
+        greatest: f64,
+    ) -> f64 {
+        let random = &mut self.random;
+        let whole = random.below(greatest as u64) as f64;
+        match parameter {
+            Parameter::Zero => random.pick(&[0.0, 0.0, -0.0, 5e-324]),
+            Parameter::BelowTiny => random.log_uniform(1e-300, 1e-10),
+            Parameter::AroundTiny => beside(1e-10, random.pick(&[-1, 0, 1])),
+            Parameter::Small => random.log_uniform(1e-10, 1e-1),
+            Parameter::Whole => whole,
+            Parameter::Half => whole + 0.5,
+            Parameter::BesideHalf => {
+                beside(whole + random.pick(&[0.5, 1.0]), random.pick(&[-1, 1]))
+            }
+            Parameter::Uniform => greatest * random.unit(),
+            Parameter::Limit => {
+                let steps = random.pick(&[-1, -2, -3, -1000]);
+                beside(limiting_parameter(record, request), steps)
+            }
+        }
+    }
+
+    fn allowance(&mut self, record: &Record, request: Request) -> u16 {
+        match self.random.below(100) {
+            0..65 => u16::MAX,
+            65..80 => self.random.between(140, 1000),
+            80..88 => self.random.between(55, 140),
+            88..90 => self.random.between(0, 55),
+            _ => {
+                let needed = needed_allowance(request.kind(), record.m, record.n, record.c);
+                let beside = self.random.pick(&[-1, 0, 0, 1]);
+                needed.saturating_add_signed(beside)
+            }
+        }
+    }
+
+    fn argument(&mut self, request: Request) -> f64 {
+        let random = &mut self.random;
+        match request {
+            Request::Row(_) | Request::DlmfRow(_) => random.any_double(),
+            Request::Radial => random.pick(&[0.0, -0.0]),
+            Request::Angular(_) => match random.below(100) {
+                0..20 => random.pick(&[0.0, -0.0, 1.0, -1.0]),
+                20..27 => random.sign() * beside(1.0, -(random.between(1, 40) as i64)),
+                27..32 => random.sign() * f64::from_bits(random.bits() >> 12),
+                32..40 => random.sign() * random.log_uniform(1e-300, 1e-8),
+                40..52 => random.sign() * random.log_uniform(1e-8, 1e-1),
+                _ => random.sign() * random.unit(),
+            },
+        }
+    }
+
+    fn characteristic_value(&mut self, record: &Record, request: Request) -> f64 {
+        let Record { m, n, c, .. } = *record;
+        let random = &mut self.random;
+        let true_value = || segv(request.kind(), m, n, c)[usize::from(n - m)];
+        let spread = f64::from(n) * f64::from(n + 1) + c * c + 10.0;
+        match random.weighted(&VALUES) {
+            Value::True => true_value(),
+            Value::UlpsOff => beside(true_value(), random.pick(&[-8, -3, -2, -1, 1, 2, 3, 8])),
+            Value::SlightlyOff => {
+                true_value() * (1.0 + random.sign() * random.log_uniform(1e-14, 1e-1))
+            }
+            Value::OfNoMode => random.sign() * spread * random.unit(),
+            Value::Whole => (random.sign() * spread * random.unit()).round(),
+            Value::Diagonal => diagonal(record, request, random.unit()),
+            Value::Zero => random.pick(&[0.0, -0.0]),
+            Value::Huge => random.sign() * random.log_uniform(1e100, f64::MAX),
+            Value::AnyFinite => random.any_finite(),
+        }
+    }
+
+    fn spoil(&mut self, record: &mut Record) {
+        let random = &mut self.random;
+        let request = Request::of_operation(record.operation);
+        match random.weighted(&SPOILINGS) {
+            Spoiling::Operation => record.operation = random.pick(&[0, 8, 9, 83, 128, 255]),
+            Spoiling::Mode => (record.m, record.n) = faulty_mode(random, record.m),
+            Spoiling::ParameterSign => record.c = faulty_parameter(random),
+            Spoiling::ParameterLimit => {
+                if let Some(request) = request {
+                    record.c = excessive_parameter(random, record, request);
+                }
+            }
+            Spoiling::Value => record.cv = random.pick(&[f64::NAN, f64::INFINITY, -f64::INFINITY]),
+            Spoiling::Argument => record.x = faulty_argument(random),
+            Spoiling::Allowance => record.allowance = random.pick(&[0, 0, 1, 2, 40, 45, 50, 55]),
+        }
+    }
+}
+
+fn limit(request: Request) -> f64 {
+    if request.is_row() { 291.0 } else { 175.0 }
+}
+
+/// The least c that refusal 6 turns back in exact numbers, at least 1.
+fn limiting_parameter(record: &Record, request: Request) -> f64 {
+    let offset = f64::from(record.n.saturating_sub(record.m));
+    let mut limit = limit(request);
+    if request == Request::Radial {
+        limit = limit.min(176.0 - f64::from(record.m));
+    }
+    (limit - offset / 2.0).max(1.0)
+}
+
+/// The double that stands so many places above or below.
+fn beside(value: f64, places: i64) -> f64 {
+    let next = if places < 0 {
+        f64::next_down
+    } else {
+        f64::next_up
+    };
+    (0..places.unsigned_abs()).fold(value, |value, _| next(value))
+}
+
+/// A diagonal entry of the record's matrix: cv equal to one makes a pivot of `sdmn` zero.
+fn diagonal(record: &Record, request: Request, unit: f64) -> f64 {
+    let Record { m, n, c, .. } = *record;
+    let entries = 27 + half_offset_plus_c(m, n, c) as i64;
+    let entry = (unit * entries as f64) as i64;
+    // Half of the time entry N, where the downward recurrence of sdmn starts.
+    let entry = if unit < 0.5 { entries - 2 } else { entry };
+    let k = 2 * entry + i64::from((n - m) % 2);
+    let cs = c * c * f64::from(request.kind().sign());
+    let (_, d, _) = matrix_terms(i64::from(m), k, cs);
+    d
+}
+
+fn faulty_mode(random: &mut Random, m: u16) -> (u16, u16) {
+    let m = m.min(199);
+    match random.below(6) {
+        0 => (200, random.pick(&[200, 201, 399, 0])),
+        1 => (m, m + 200),
+        2 => (m, m.saturating_sub(random.between(1, 3))),
+        3 => (199, random.pick(&[398, 399, 400])),
+        4 => (random.pick(&[0, 1, 200, u16::MAX]), u16::MAX),
+        _ => (random.bits() as u16, random.bits() as u16),
+    }
+}
+
+fn faulty_parameter(random: &mut Random) -> f64 {
+    match random.below(4) {
+        0 => f64::from_bits(0x7ff0_0000_0000_0001 | random.bits()),
+        1 => random.pick(&[f64::INFINITY, -f64::INFINITY]),
+        2 => random.pick(&[-5e-324, -f64::MIN_POSITIVE, -1e-10, -1.0, -174.0, f64::MIN]),
+        _ => -random.log_uniform(1e-300, 1e300),
+    }
+}
+
+fn excessive_parameter(random: &mut Random, record: &Record, request: Request) -> f64 {
+    let c = limiting_parameter(record, request);
+    match random.below(8) {
+        0..3 => c,
+        3..5 => beside(c, random.pick(&[-1, 1])),
+        5 => c + 1.0,
+        6 => random.pick(&[1e3, 2_147_483_648.0, 4_294_967_296.0, 1e19, f64::MAX]),
+        _ => random.log_uniform(176.0, 1e300),
+    }
+}
+
+fn faulty_argument(random: &mut Random) -> f64 {
+    let size = match random.below(4) {
+        0 => random.pick(&[5e-324, 1e-300, 1e-8, 0.5, 1.0]),
+        1 => beside(1.0, 1),
+        2 => random.pick(&[2.0, f64::MAX, f64::INFINITY, f64::NAN]),
+        _ => random.any_double(),
+    };
+    random.sign() * size
+}

@@ -1,0 +1,44 @@
+//! What of our program is there to be compared.
+
+/// Our program's native binary, seen from the repository root. SPHEROIDAL overrides it.
+pub const PROGRAM: &str = "target/bin/spheroidal";
+
+/// One line for each class of input: its name, and whether our program answers it yet. What has not
+/// landed is not sent to our program and counts neither as passed nor as failed.
+pub const CLASSES: [(&str, bool); 9] = [
+    ("operation 1, prolate row", false),
+    ("operation 2, oblate row", false),
+    ("operation 3, prolate angular", false),
+    ("operation 4, oblate angular", false),
+    ("operation 5, oblate radial", false),
+    ("operation 6, prolate DLMF row", false),
+    ("operation 7, oblate DLMF row", false),
+    ("other operations, refused 3", false),
+    ("damaged streams, refused 1 or 2", false),
+];
+
+const OTHER_OPERATIONS: usize = 7;
+pub const DAMAGED_STREAMS: usize = 8;
+
+/// The class of a record with this operation, as an index into `CLASSES`.
+pub fn class_of(operation: u8) -> usize {
+    match operation {
+        1..=7 => usize::from(operation) - 1,
+        _ => OTHER_OPERATIONS,
+    }
+}
+
+pub fn has_landed(class: usize) -> bool {
+    CLASSES[class].1
+}
+
+pub fn any_landed() -> bool {
+    CLASSES.iter().any(|&(_, landed)| landed)
+}
+
+/// The operations from 1 to 7 that have landed.
+pub fn landed_operations() -> Vec<u8> {
+    (1..=7)
+        .filter(|&operation| has_landed(class_of(operation)))
+        .collect()
+}

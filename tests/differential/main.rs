@@ -1,0 +1,223 @@
+//! Compares our program with the oracle, and the oracle with itself.
+
+mod checks;
+mod comparison;
+mod damaged;
+mod generator;
+mod known;
+mod landed;
+mod program;
+mod random;
+mod tally;
+
+use std::io::Write;
+use std::process::ExitCode;
+
+use oracle::answer::{Build, record_lines};
+use oracle::reading::refusal;
+use oracle::record::Record;
+
+use checks::OwnChecks;
+use comparison::Comparison;
+use generator::Generator;
+use known::Input;
+use landed::{CLASSES, DAMAGED_STREAMS, any_landed, class_of, has_landed, landed_operations};
+use program::Program;
+use tally::Tally;
+
+const USAGE: &str = "usage: compare [--records] [N] [SEED]";
+const KNOWN_RECORDS: &str = "tests/oracle/traps.txt";
+const DEFAULT_RECORDS: usize = 20_000;
+const DEFAULT_SEED: u64 = 20_261_114;
+
+/// Records sent to our program in one stream.
+const STREAM_RECORDS: usize = 20_000;
+
+/// Status where nothing could be compared.
+const NOT_RUN: u8 = 2;
+
+struct Arguments {
+    records: usize,
+    seed: u64,
+    /// Write the records and compare nothing.
+    only_records: bool,
+}
+
+fn main() -> ExitCode {
+    match arguments().and_then(run) {
+        Ok(code) => code,
+        Err(message) => {
+            eprintln!("compare: {message}");
+            eprintln!("compare: nothing was compared");
+            ExitCode::from(NOT_RUN)
+        }
+    }
+}
+
+fn arguments() -> Result<Arguments, String> {
+    let mut words: Vec<String> = std::env::args().skip(1).collect();
+    let only_records = words.first().is_some_and(|word| word == "--records");
+    if only_records {
+        words.remove(0);
+    }
+    if words.len() > 2 {
+        return Err(USAGE.to_string());
+    }
+    let number = |at: usize, default: u64| match words.get(at) {
+        Some(word) => word.parse().map_err(|_| USAGE.to_string()),
+        None => Ok(default),
+    };
+    Ok(Arguments {
+        records: number(0, DEFAULT_RECORDS as u64)? as usize,
+        seed: number(1, DEFAULT_SEED)?,
+        only_records,
+    })
+}
+
+fn run(arguments: Arguments) -> Result<ExitCode, String> {
+    let mut generator = Generator::new(arguments.seed);
+    if arguments.only_records {
+        return write_records(&mut generator, arguments.records);
+    }
+    let file = std::fs::read_to_string(KNOWN_RECORDS).map_err(|error| error.to_string())?;
+    let program = if any_landed() {
+        Some(Program::find()?)
+    } else {
+        None
+    };
+    let mut run = Run {
+        own: OwnChecks::new(),
+        comparison: Comparison::new(program),
+        accepted: 0,
+    };
+    run.own.check_example();
+    run.known_records(&file)?;
+    run.fresh_records(&mut generator, arguments.records);
+    for stream in damaged::damaged_streams(&mut generator, &landed_operations()) {
+        run.comparison.compare_damaged(&stream);
+    }
+    Ok(run.report(&arguments))
+}
+
+fn write_records(generator: &mut Generator, count: usize) -> Result<ExitCode, String> {
+    let bytes: Vec<u8> = generator
+        .records(count)
+        .iter()
+        .flat_map(Record::to_bytes)
+        .collect();
+    std::io::stdout()
+        .write_all(&bytes)
+        .map_err(|error| error.to_string())?;
+    Ok(ExitCode::SUCCESS)
+}
+
+struct Run {
+    own: OwnChecks,
+    comparison: Comparison,
+    /// Fresh records that were not refused.
+    accepted: usize,
+}
+
+impl Run {
+    fn known_records(&mut self, file: &str) -> Result<(), String> {
+        let mut records = Vec::new();
+        for known in known::parse(file)? {
+            self.own.check_known(&known);
+            match known.input {
+                Input::Record(record) => records.push(record),
+                Input::Stream(stream) => self.comparison.compare_damaged(&stream),
+            }
+        }
+        self.records(&records);
+        Ok(())
+    }
+
+    fn fresh_records(&mut self, generator: &mut Generator, count: usize) {
+        let mut left = count;
+        while left > 0 {
+            let records = generator.records(left.min(STREAM_RECORDS));
+            left -= records.len();
+            self.accepted += self.records(&records);
+        }
+    }
+
+    /// Checks and compares records, and gives the number of those not refused.
+    fn records(&mut self, records: &[Record]) -> usize {
+        let mut accepted = 0;
+        let mut sent = Vec::new();
+        let mut expected = Vec::new();
+        for record in records {
+            let lines = record_lines(Build::PowerRule, sent.len(), record);
+            self.own.check_record(record, &lines);
+            accepted += usize::from(refusal(record).is_none() && !lines.starts_with('R'));
+            if has_landed(class_of(record.operation)) {
+                sent.push(*record);
+                expected.push(lines);
+            } else {
+                self.comparison.not_compared[class_of(record.operation)] += 1;
+            }
+        }
+        self.comparison.compare_records(&sent, &expected);
+        accepted
+    }
+
+    fn report(&self, arguments: &Arguments) -> ExitCode {
+        let Arguments { records, seed, .. } = arguments;
+        println!(
+            "{records} fresh records of seed {seed}, {} of them accepted",
+            self.accepted
+        );
+        println!("The oracle's own checks");
+        self.own.tallies().iter().for_each(|tally| tally.print());
+        self.report_comparison();
+        let tallies: Vec<&Tally> = self.tallies();
+        let failed: usize = tallies.iter().map(|tally| tally.failed).sum();
+        let passed: usize = tallies.iter().map(|tally| tally.passed).sum();
+        if failed > 0 {
+            println!("First failures");
+            tallies.iter().for_each(|tally| tally.print_failures());
+        }
+        println!("{passed} passed, {failed} failed");
+        if failed > 0 {
+            ExitCode::FAILURE
+        } else {
+            ExitCode::SUCCESS
+        }
+    }
+
+    fn report_comparison(&self) {
+        println!("Our program against the oracle");
+        if !any_landed() {
+            println!(
+                "  Our program is not there yet: no operation has landed. Only the oracle's own"
+            );
+            println!("  checks ran.");
+        }
+        for (class, (name, landed)) in CLASSES.iter().enumerate() {
+            let unit = if class == DAMAGED_STREAMS {
+                "streams"
+            } else {
+                "records"
+            };
+            let count = self.comparison.not_compared[class];
+            if *landed {
+                self.comparison.classes[class].print();
+            }
+            if count > 0 {
+                println!("  {name:<40} not landed, not compared: {count} {unit}");
+            }
+        }
+        if any_landed() {
+            self.comparison.streams.print();
+        }
+    }
+
+    fn tallies(&self) -> Vec<&Tally> {
+        let compared = self
+            .comparison
+            .classes
+            .iter()
+            .chain([&self.comparison.streams]);
+        self.own.tallies().into_iter().chain(compared).collect()
+    }
+}

@@ -1,0 +1,201 @@
+//! The lines that a record or a stream must print.
+
+use std::fmt::Write;
+
+use crate::reading;
+use crate::record::{Kind, LENGTH, MARK, Record, Request, hex, same};
+use crate::xsf::specfun::{power_rule, unaltered};
+
+/// Which build of `sphd.rs` gives the angular pair; all else is the same text in both.
+#[derive(Clone, Copy, Debug, PartialEq, Eq)]
+pub enum Build {
+    Unaltered,
+    PowerRule,
+}
+
+/// The characteristic values of modes m to n by `segv`.
+pub fn segv(kind: Kind, m: u16, n: u16, c: f64) -> Vec<f64> {
+    let mut last = 0.0;
+    let mut row = vec![0.0; 200];
+    unaltered::segv(
+        i32::from(m),
+        i32::from(n),
+        c,
+        kind.sign(),
+        &mut last,
+        &mut row,
+    );
+    row.truncate(usize::from(n - m) + 1);
+    row
+}
+
+/// The angular pair by `aswfa`, at an x that need not be the record's.
+pub fn aswfa(build: Build, kind: Kind, record: &Record, x: f64) -> [f64; 2] {
+    let (m, n) = (i32::from(record.m), i32::from(record.n));
+    let [mut value, mut derivative] = [0.0; 2];
+    let aswfa = match build {
+        Build::Unaltered => unaltered::aswfa,
+        Build::PowerRule => power_rule::aswfa,
+    };
+    aswfa(
+        x,
+        m,
+        n,
+        record.c,
+        kind.sign(),
+        record.cv,
+        &mut value,
+        &mut derivative,
+    );
+    [value, derivative]
+}
+
+/// Both oblate radial kinds by `rswfo` with kf = 3.
+fn rswfo(record: &Record) -> [f64; 4] {
+    let (m, n) = (i32::from(record.m), i32::from(record.n));
+    let [mut r1f, mut r1d, mut r2f, mut r2d] = [0.0; 4];
+    let Record { c, x, cv, .. } = *record;
+    unaltered::rswfo(m, n, c, x, cv, 3, &mut r1f, &mut r1d, &mut r2f, &mut r2d);
+    [r1f, r1d, r2f, r2d]
+}
+
+/// The next record of a stream, or the refusal that stops it; none at its end.
+pub fn next_record(stream: &mut &[u8]) -> Option<Result<Record, u8>> {
+    let rest = *stream;
+    *stream = &[];
+    if rest.is_empty() {
+        return None;
+    }
+    let Some((bytes, after)) = rest.split_first_chunk::<LENGTH>() else {
+        return Some(Err(1));
+    };
+    if bytes[..MARK.len()] != MARK {
+        return Some(Err(2));
+    }
+    *stream = after;
+    Some(Ok(Record::from_bytes(bytes)))
+}
+
+/// The lines of a whole stream.
+pub fn stream_lines(build: Build, stream: &[u8]) -> String {
+    each_record(stream, |number, record| record_lines(build, number, record))
+}
+
+/// The coefficients of a whole stream's records.
+pub fn stream_coefficients(stream: &[u8]) -> String {
+    each_record(stream, coefficient_lines)
+}
+
+fn each_record(mut stream: &[u8], lines: impl Fn(usize, &Record) -> String) -> String {
+    let mut out = String::new();
+    let mut number = 0;
+    while let Some(next) = next_record(&mut stream) {
+        match next {
+            Ok(record) => out += &lines(number, &record),
+            Err(refusal) => out += &refusal_line(number, refusal),
+        }
+        number += 1;
+    }
+    out
+}
+
+fn refusal_line(number: usize, refusal: u8) -> String {
+    format!("R {number} {refusal}\n")
+}
+
+/// The lines of one record. A line `X` record, mode, value by `segv`, value by the reading stands
+/// before a row in which the two differ: then the reading or the document is wrong.
+pub fn record_lines(build: Build, number: usize, record: &Record) -> String {
+    if let Some(refusal) = reading::refusal(record) {
+        return refusal_line(number, refusal);
+    }
+    let _named = NameOnPanic(record);
+    let Record { m, n, x, .. } = *record;
+    match Request::of_operation(record.operation).expect("an operation from 1 to 7") {
+        Request::Row(kind) => row_lines(number, kind, record, v_line),
+        Request::DlmfRow(kind) => row_lines(number, kind, record, d_line),
+        Request::Angular(kind) => mode_line('A', number, m, n, &aswfa(build, kind, record, x)),
+        Request::Radial => mode_line('F', number, m, n, &rswfo(record)),
+    }
+}
+
+/// Writes one line of a row from the record's number, the mode, the record's c, the value by
+/// `segv` and what the reading found.
+type LineOfRow = fn(usize, u16, f64, f64, &reading::RowValue) -> String;
+
+fn row_lines(number: usize, kind: Kind, record: &Record, line: LineOfRow) -> String {
+    let Record {
+        m, n, c, allowance, ..
+    } = *record;
+    let Ok(row) = reading::row(kind, m, n, c, allowance) else {
+        return refusal_line(number, 10);
+    };
+    let mut disagreements = String::new();
+    let mut lines = String::new();
+    for ((mode, value), read) in (m..=n).zip(segv(kind, m, n, c)).zip(&row) {
+        if !same(value, read.value) {
+            disagreements += &format!("X {number} {mode} {} {}\n", hex(value), hex(read.value));
+        }
+        lines += &line(number, mode, c, value, read);
+    }
+    disagreements + &lines
+}
+
+fn v_line(number: usize, mode: u16, _c: f64, value: f64, read: &reading::RowValue) -> String {
+    let (steps, lower, upper) = (read.steps, hex(read.lower), hex(read.upper));
+    format!("V {number} {mode} {steps} {} {lower} {upper}\n", hex(value))
+}
+
+fn d_line(number: usize, mode: u16, c: f64, value: f64, _read: &reading::RowValue) -> String {
+    format!("D {number} {mode} {}\n", hex(value - c * c))
+}
+
+fn mode_line(letter: char, number: usize, m: u16, n: u16, values: &[f64]) -> String {
+    format!("{letter} {number} {m} {n}{}\n", words(values))
+}
+
+fn words(values: &[f64]) -> String {
+    values.iter().fold(String::new(), |mut words, &value| {
+        let _ = write!(words, " {}", hex(value));
+        words
+    })
+}
+
+/// The coefficients behind an angular or radial record, one line for each routine; x is not tested,
+/// and a row prints nothing.
+fn coefficient_lines(number: usize, record: &Record) -> String {
+    let Some(request) = Request::of_operation(record.operation) else {
+        return refusal_line(number, 3);
+    };
+    if let Some(refusal) = reading::coefficient_refusal(record, request) {
+        return refusal_line(number, refusal);
+    }
+    if request.is_row() {
+        return String::new();
+    }
+    let (m, n) = (i32::from(record.m), i32::from(record.n));
+    let Record { c, cv, .. } = *record;
+    let df = unaltered::sdmn_places(m, n, c, cv, request.kind().sign());
+    let ck = unaltered::sckb_places(m, n, c, &df);
+    let mut lines = format!("sdmn {number}{}\nsckb {number}{}\n", words(&df), words(&ck));
+    if request == Request::Radial {
+        let ck1 = unaltered::kmn_factor(m, n, c, cv, &df);
+        let (qs, qt) = unaltered::qstar_pair(m, n, c, ck1, &ck);
+        let bk = unaltered::cbk_places(m, n, c, cv, qt, &ck);
+        lines += &format!("kmn {number}{}\n", words(&[ck1]));
+        lines += &format!("qstar {number}{}\n", words(&[qs, qt]));
+        lines += &format!("cbk {number}{}\n", words(&bk));
+    }
+    lines
+}
+
+/// Names the record where the Rust panics, so that it can be run again alone.
+struct NameOnPanic<'a>(&'a Record);
+
+impl Drop for NameOnPanic<'_> {
+    fn drop(&mut self) {
+        if std::thread::panicking() {
+            eprintln!("the Rust original stopped at {}", self.0);
+        }
+    }
+}

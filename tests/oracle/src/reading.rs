@@ -1,0 +1,291 @@
+//! A plain reading of document 01: the refusals, and the row by bisection.
+//!
+//! Written from the document's words and not from `sphd.rs`, so that the two can be held against
+//! each other.
+
+use crate::record::{Kind, Record, Request};
+
+const LARGEST_ORDER: u16 = 199;
+const LARGEST_OFFSET: u16 = 199;
+const ROW_LIMIT: f64 = 291.0;
+const COEFFICIENT_LIMIT: f64 = 175.0;
+const COEFFICIENT_PLACES: i32 = 200;
+const ZERO_PARAMETER: f64 = 1e-10;
+const TOLERANCE: f64 = 1e-14;
+const PIVOT_SUBSTITUTE: f64 = 1e-30;
+
+/// H: (n - m)/2 + c in doubles.
+pub fn half_offset_plus_c(m: u16, n: u16, c: f64) -> f64 {
+    f64::from(n - m) / 2.0 + c
+}
+
+/// Refusals 3 to 8, the first that applies.
+///
+/// Refusals 1 and 2 belong to the stream, 9 to the buffers of a library caller (a record lends
+/// none), 10 to the row.
+pub fn refusal(record: &Record) -> Option<u8> {
+    let Some(request) = Request::of_operation(record.operation) else {
+        return Some(3);
+    };
+    coefficient_refusal(record, request).or_else(|| x_refused(record.x, request).then_some(8))
+}
+
+/// Refusals 4 to 7, those that coefficients share with the angular pair.
+pub fn coefficient_refusal(record: &Record, request: Request) -> Option<u8> {
+    let Record { m, n, c, cv, .. } = *record;
+    if m > LARGEST_ORDER || n < m || n - m > LARGEST_OFFSET {
+        Some(4)
+    } else if c.is_nan() || c.is_infinite() || c < 0.0 {
+        Some(5)
+    } else if too_large(m, n, c, request) {
+        Some(6)
+    } else if !request.is_row() && !cv.is_finite() {
+        Some(7)
+    } else {
+        None
+    }
+}
+
+fn too_large(m: u16, n: u16, c: f64, request: Request) -> bool {
+    let h = half_offset_plus_c(m, n, c);
+    match request {
+        Request::Row(_) | Request::DlmfRow(_) => h >= ROW_LIMIT,
+        Request::Angular(_) => h >= COEFFICIENT_LIMIT,
+        // H is tested first: 25 + H truncated is a small number only below the limit.
+        Request::Radial => {
+            h >= COEFFICIENT_LIMIT || 25 + h as i32 + i32::from(m) > COEFFICIENT_PLACES
+        }
+    }
+}
+
+fn x_refused(x: f64, request: Request) -> bool {
+    match request {
+        Request::Row(_) | Request::DlmfRow(_) => false,
+        Request::Angular(_) => x.is_nan() || x.abs() > 1.0,
+        Request::Radial => x != 0.0,
+    }
+}
+
+/// A characteristic value with the bracket that its stopping test used and its step number.
+#[derive(Clone, Copy, Debug)]
+pub struct RowValue {
+    pub steps: u32,
+    pub value: f64,
+    pub lower: f64,
+    pub upper: f64,
+}
+
+/// Refusal 10.
+#[derive(Debug)]
+pub struct OutOfSteps;
+
+/// The row of modes m to n, for a mode that no refusal from 3 to 8 turns back.
+pub fn row(
+    kind: Kind,
+    m: u16,
+    n: u16,
+    c: f64,
+    allowance: u16,
+) -> Result<Vec<RowValue>, OutOfSteps> {
+    if c < ZERO_PARAMETER {
+        return Ok((m..=n).map(zero_parameter_value).collect());
+    }
+    let [even, odd] = families(kind, m, n, c, allowance)?;
+    let at_offset = |j: usize| if j % 2 == 0 { even[j / 2] } else { odd[j / 2] };
+    Ok((0..=usize::from(n - m)).map(at_offset).collect())
+}
+
+/// The least allowance with which a row is not refused 10, for choosing records at that edge.
+pub fn needed_allowance(kind: Kind, m: u16, n: u16, c: f64) -> u16 {
+    if c < ZERO_PARAMETER {
+        return 0;
+    }
+    let places = families(kind, m, n, c, u16::MAX).expect("65535 steps suffice");
+    let most = places.iter().flatten().map(|place| place.steps).max();
+    most.expect("at least one place") as u16
+}
+
+fn families(
+    kind: Kind,
+    m: u16,
+    n: u16,
+    c: f64,
+    allowance: u16,
+) -> Result<[Vec<RowValue>; 2], OutOfSteps> {
+    let even = family(kind, Parity::Even, m, n, c, allowance)?;
+    let odd = family(kind, Parity::Odd, m, n, c, allowance)?;
+    Ok([even, odd])
+}
+
+fn zero_parameter_value(mode: u16) -> RowValue {
+    let value = f64::from(u32::from(mode) * (u32::from(mode) + 1));
+    RowValue {
+        steps: 0,
+        value,
+        lower: value,
+        upper: value,
+    }
+}
+
+#[derive(Clone, Copy)]
+enum Parity {
+    Even,
+    Odd,
+}
+
+/// What the count and the bounds use of a matrix entry.
+struct Entry {
+    d: f64,
+    e: f64,
+    f: f64,
+}
+
+/// The K entries of one parity.
+fn entries(kind: Kind, parity: Parity, m: u16, n: u16, c: f64) -> Vec<Entry> {
+    let cs = c * c * f64::from(kind.sign());
+    let size = 10 + half_offset_plus_c(m, n, c) as i64;
+    let mut a_before = None;
+    let mut entries = Vec::new();
+    for i in 1..=size {
+        let k = match parity {
+            Parity::Even => 2 * (i - 1),
+            Parity::Odd => 2 * i - 1,
+        };
+        let (a, d, g) = matrix_terms(i64::from(m), k, cs);
+        let e = a_before.map_or(0.0, |before: f64| (before * g).sqrt());
+        entries.push(Entry { d, e, f: e * e });
+        a_before = Some(a);
+    }
+    entries
+}
+
+/// a, d and g of document 01. The whole-number parts are exact, so they are formed as such.
+pub fn matrix_terms(m: i64, k: i64, cs: f64) -> (f64, f64, f64) {
+    let degree = m + k;
+    let twice = 2 * degree;
+    let quotient = |above: i64, below: i64| above as f64 / below as f64;
+    let a = quotient((2 * m + k + 2) * (2 * m + k + 1), (twice + 3) * (twice + 5)) * cs;
+    let d = (degree * (degree + 1)) as f64
+        + quotient(
+            2 * degree * (degree + 1) - 2 * m * m - 1,
+            (twice - 1) * (twice + 3),
+        ) * cs;
+    let g = quotient(k * (k - 1), (twice - 3) * (twice - 1)) * cs;
+    (a, d, g)
+}
+
+#[derive(Clone, Copy)]
+struct Bracket {
+    lower: f64,
+    upper: f64,
+}
+
+fn gershgorin_bounds(entries: &[Entry]) -> Bracket {
+    let last = entries.last().expect("at least ten entries");
+    let mut bounds = Bracket {
+        lower: last.d - last.e.abs(),
+        upper: last.d + last.e.abs(),
+    };
+    for pair in entries.windows(2) {
+        let t = pair[0].e.abs() + pair[1].e.abs();
+        if pair[0].d + t > bounds.upper {
+            bounds.upper = pair[0].d + t;
+        }
+        if pair[0].d - t < bounds.lower {
+            bounds.lower = pair[0].d - t;
+        }
+    }
+    bounds
+}
+
+/// The number of negative pivots at a shift.
+fn negative_pivots(entries: &[Entry], shift: f64) -> usize {
+    let mut s = 1.0;
+    let mut count = 0;
+    for entry in entries {
+        if s == 0.0 {
+            s = PIVOT_SUBSTITUTE;
+        }
+        s = (entry.d - entry.f / s) - shift;
+        if s < 0.0 {
+            count += 1;
+        }
+    }
+    count
+}
+
+/// All places of one parity, the odd place beyond n included.
+fn family(
+    kind: Kind,
+    parity: Parity,
+    m: u16,
+    n: u16,
+    c: f64,
+    allowance: u16,
+) -> Result<Vec<RowValue>, OutOfSteps> {
+    let entries = entries(kind, parity, m, n, c);
+    let places = usize::from((n - m + 2) / 2);
+    let mut brackets = vec![gershgorin_bounds(&entries); places];
+    (1..=places)
+        .map(|place| {
+            open(&mut brackets, place);
+            bisect(&entries, &mut brackets, place, allowance)
+        })
+        .collect()
+}
+
+/// What a place takes over from its neighbours before it is bisected. Places count from 1.
+fn open(brackets: &mut [Bracket], place: usize) {
+    let own = brackets[place - 1];
+    let later = brackets[place..].iter().map(|bracket| bracket.upper);
+    if let Some(upper) = later.into_iter().find(|&upper| upper < own.upper) {
+        brackets[place - 1].upper = upper;
+    }
+    if place > 1 && brackets[place - 2].lower > own.lower {
+        brackets[place - 1].lower = brackets[place - 2].lower;
+    }
+}
+
+fn bisect(
+    entries: &[Entry],
+    brackets: &mut [Bracket],
+    place: usize,
+    allowance: u16,
+) -> Result<RowValue, OutOfSteps> {
+    for steps in 1..=u32::from(allowance) {
+        let Bracket { lower, upper } = brackets[place - 1];
+        let value = (upper + lower) / 2.0;
+        if ((upper - lower) / value).abs() < TOLERANCE {
+            return Ok(RowValue {
+                steps,
+                value,
+                lower,
+                upper,
+            });
+        }
+        tighten(brackets, place, value, negative_pivots(entries, value));
+    }
+    Err(OutOfSteps)
+}
+
+/// What a count at a place's midpoint says of this place and of others.
+fn tighten(brackets: &mut [Bracket], place: usize, midpoint: f64, count: usize) {
+    if count < place {
+        brackets[place - 1].lower = midpoint;
+        return;
+    }
+    brackets[place - 1].upper = midpoint;
+    let places = brackets.len();
+    if count >= places {
+        brackets[places - 1].upper = midpoint;
+        return;
+    }
+    let after = &mut brackets[count];
+    if after.lower < midpoint {
+        after.lower = midpoint;
+    }
+    let counted = &mut brackets[count - 1];
+    if midpoint < counted.upper {
+        counted.upper = midpoint;
+    }
+}

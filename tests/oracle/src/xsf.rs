@@ -1,0 +1,15 @@
+//! The little of the Rust original that `sphd.rs` leans on, under the module names it expects.
+
+pub mod specfun;
+
+pub mod tools {
+    /// `(int)x` as an x86-64 compiler gives it. Only arguments off the disc reach it.
+    pub(crate) fn int_x86(x: f64) -> i32 {
+        let truncated = x.trunc();
+        if (-2_147_483_648.0..2_147_483_648.0).contains(&truncated) {
+            truncated as i32
+        } else {
+            i32::MIN
+        }
+    }
+}
