@@ -1,0 +1,82 @@
+-- The bisection of one place. 'Place' is document 01's word: the number, from 1, of a characteristic value among those of its parity. Definitions only.
+use Prim.Native.Nat.{ℕ, zero, suc, _+_, _-_}
+use mathlib.Core.Bool.{Bool, cond}
+use mathlib.Core.List.{List}
+use mathlib.Core.Path.{_≡_}
+use lib.Dec.{ltb, leb}
+use lib.Ieee.{Float, lt}
+use lib.ListN.{set}
+use Rattle.arith.specs.Double.{_⊕_, _⊖_, _⊘_, #2, #1e-14, at}
+use Rattle.arith.specs.Choice.{abs, lesser, greater}
+use Rattle.sturm.specs.Pivots.{negativePivots}
+use Rattle.segv.specs.declared.bisection.Bracket.{Bracket}
+use Rattle.segv.specs.declared.bisection.Search.{Search}
+use Rattle.segv.specs.declared.bisection.Search.the-variants.{Converged, OutOfSteps}
+
+-- ---- a place's own bracket
+
+-- a step forms the midpoint (upper + lower)/2, which becomes the value; the step counts
+unfoldable pub withMidpoint : Bracket → Bracket
+withMidpoint r = record { value = (r .upper ⊕ r .lower) ⊘ #2; lower = r .lower; upper = r .upper; steps = r .steps + 1 }
+
+-- |(upper − lower)/midpoint| < 1e-14
+unfoldable pub converged : Bracket → Bool
+converged r = lt (abs ((r .upper ⊖ r .lower) ⊘ r .value)) #1e-14
+
+-- a count below this place's number makes the midpoint the lower, any other count the upper
+unfoldable pub tighten : ℕ → ℕ → Bracket → Bracket
+tighten count place r =
+    record {
+      value = r .value;
+      lower = cond (ltb count place) (r .value) (r .lower);
+      upper = cond (ltb count place) (r .upper) (r .value);
+      steps = r .steps;
+    }
+
+-- ---- the brackets of the other places
+
+-- the ends of all brackets of a parity; the place q has those at q − 1
+pub record Ends : Type 0 where
+  pub uppers : List Float
+  pub lowers : List Float
+
+abbrev pub ends : List Float → List Float → Ends
+ends us ls = record { uppers = us; lowers = ls }
+
+-- A count that reaches the number of places makes the midpoint the last place's upper too. A smaller count raises the lower of the place after the counted one to it,
+-- and lowers the upper of the counted place to it, where that tightens.
+unfoldable pub tightenOthers : ℕ → ℕ → Float → Ends → Ends
+tightenOthers places count midpoint s =
+    cond (leb places count)
+    (record { uppers = set (s .uppers) (places - 1) midpoint; lowers = s .lowers })
+    (record {
+      uppers = set (s .uppers) (count - 1) (lesser (at (s .uppers) (count - 1)) midpoint);
+      lowers = set (s .lowers) count (greater (at (s .lowers) count) midpoint);
+    })
+
+-- only where the count makes the midpoint this place's upper
+unfoldable pub tightenAll : ℕ → ℕ → ℕ → Float → Ends → Ends
+tightenAll places place count midpoint s = cond (leb place count) (tightenOthers places count midpoint s) s
+
+-- ---- the bisection
+
+-- what a bisection found, and the ends as it leaves them
+pub record Outcome : Type 0 where
+  pub found : Search
+  pub ends : Ends
+
+-- of the matrix with the diagonal ds, the squares fs and this many entries
+module _ (ds fs : List Float) (entries places : ℕ) where
+  -- With an allowance of so many steps: the passing step's bracket is the one that its test used. Where no step is left, the place is out of steps.
+  unfoldable pub bisection : ℕ → ℕ → Bracket → Ends → Outcome
+  bisection place zero r s = record { found = OutOfSteps; ends = s }
+  bisection place (suc left) r s =
+      let h = withMidpoint r in
+      let count = negativePivots ds fs entries (h .value) in
+      let later = bisection place left (tighten count place h) (tightenAll places place count (h .value) s) in
+      cond (converged h) (record { found = Converged h; ends = s }) later
+
+  -- what the code of a bisection answers, and the ends that it leaves
+  pub record Bisected (place allowance : ℕ) (start : Bracket) (before : Ends) (r : Search) (after : Ends) : Type 0 where
+    pub found : r ≡ bisection place allowance start before .found
+    pub left : after ≡ bisection place allowance start before .ends

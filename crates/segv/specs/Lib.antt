@@ -1,0 +1,4 @@
+pub mod Bisection
+pub mod Families
+pub mod Row
+pub mod Sound
