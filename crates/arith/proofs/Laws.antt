@@ -3,14 +3,16 @@ use mathlib.Core.Path.{_≡_, refl, sym, ap, subst, _∙_}
 use mathlib.Core.Logic.{_⊎_, inl, inr}
 use mathlib.Core.Bool.{Bool, true, false, cond}
 use Prim.Native.Nat.{ℕ, _+_, _-_, _*_, _/_, _^_, _≤_, _<_, min}
-use native.Mathlib.Nat.{zero-div, mul-one, mul-right-comm, div-lt-iff-lt-mul, lt-of-mul-lt-mul-right}
+use native.Mathlib.Nat.{zero-div, mul-one, mul-pos, mul-mul-mul-comm, mul-right-comm, div-lt-iff-lt-mul, lt-of-mul-lt-mul-right}
 use native.Mathlib.Omega.{arith}
 use borrow.Author.Tests.{ltb-true, ltb-false}
 use lib.IntN.{pos, negℤ}
-use lib.Ieee.{Float, nan, inf, fin, up, down, lt, neg, toSigned, ofBits}
+use lib.Ieee.{Float, nan, inf, fin, binary64, up, down, round, mul, lt, neg, ofInt, toSigned, ofBits}
+use lib.Ieee.Back.{round-whole}
+use lib.Ieee.Scale.{round-same}
 use lib.Ieee.Exact.{HasValue}
 use lib.Ieee.Fits.{down-pos}
-use Rattle.arith.specs.Double.{#0}
+use Rattle.arith.specs.Double.{_⊗_, dbl, #0}
 use Rattle.arith.specs.Truncation.{truncate}
 use Rattle.arith.specs.Choice.{abs, lesser, greater}
 use Rattle.arith.proofs.Flags.{not-taken, not-left}
@@ -40,6 +42,24 @@ truncate-below (fin false m e) (fin false n d) b v B h p q =
 
     small : (c : ℕ) → c < b → min c (2 ^ 31 - 1) ≡ c
     small c l = omega arith
+
+-- ---- whole numbers
+
+-- two whole numbers' product is exact where a double holds each
+pub dbl-product : (a b : ℕ) → a ≤ 2 ^ 53 → b ≤ 2 ^ 53 → dbl a ⊗ dbl b ≡ dbl (a * b)
+unfolding ofInt mul
+dbl-product a b h k = product (round binary64 false a 1) (round binary64 false b 1) (round-whole binary64 false a h) (round-whole binary64 false b k)
+  where
+    product : (x y : Float) → HasValue x false a 1 → HasValue y false b 1 → x ⊗ y ≡ round binary64 false (a * b) 1
+    product nan y p q = absurd p
+    product (inf s) y p q = absurd p
+    product (fin true m e) y p q = not-left (p .0)
+    product (fin false m e) nan p q = absurd q
+    product (fin false m e) (inf t) p q = absurd q
+    product (fin false m e) (fin true n d) p q = not-left (q .0)
+    product (fin false m e) (fin false n d) p q =
+        round-same binary64 false (m * up e * (n * up d)) (down e * down d) (a * b) 1 (mul-pos (down-pos e) (down-pos d)) (omega arith)
+        (mul-one (m * up e * (n * up d)) ∙ ap (λ (z : ℕ). z * (n * up d)) (sym (mul-one (m * up e)) ∙ p .1) ∙ ap (λ (z : ℕ). a * down e * z) (sym (mul-one (n * up d)) ∙ q .1) ∙ mul-mul-mul-comm a (down e) b (down d))
 
 -- ---- choice
 pub abs-neg : (x : Float) → abs (neg x) ≡ abs x

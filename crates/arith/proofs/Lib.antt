@@ -2,4 +2,5 @@
 pub mod Flags
 pub mod Numbers
 pub mod Fields
+pub mod Unsigned
 pub mod Laws

@@ -1,11 +1,10 @@
 -- How the definitions of the bisection unfold, in the form in which the proofs of the code meet them.
-use Prim.Native.Nat.{ℕ, zero, suc, _+_, _-_, _/_, _≤_, _<_}
-use mathlib.Core.Path.{_≡_, refl, sym, ap, _∙_}
-use mathlib.Core.Bool.{Bool, true, false, cond}
+use Prim.Native.Nat.{ℕ, suc, _+_, _-_, _/_, _≤_, _<_}
+use mathlib.Core.Path.{_≡_, refl, sym, ap}
+use mathlib.Core.Bool.{Bool, true, false}
 use mathlib.Core.List.{List}
 use native.Mathlib.Omega.{arith}
 use borrow.Author.Tests.{le-leb, lt-leb}
-use lib.Dec.{ltb}
 use lib.ListN.{set, replicate}
 use Rattle.sturm.specs.declared.gershgorin_bounds.Bounds.{Bounds}
 use lib.Ieee.{Float}
@@ -16,8 +15,8 @@ use Rattle.segv.specs.declared.families.Family.{Family}
 use Rattle.sturm.specs.Pivots.{negativePivots}
 use Rattle.sturm.specs.Bounds.{boundsOf}
 use Rattle.sturm.specs.Entries.{diagonal, offDiagonal, squares}
-use Rattle.segv.specs.Bisection.{Ends, ends, Outcome, Bisected, bisection, withMidpoint, converged, tighten, tightenAll, tightenOthers}
-use Rattle.segv.specs.Families.{openedAt, familyFrom, onSearch, bisectedFamily, blankBracket, familyOf, Families, bothFamilies, eitherStopped}
+use Rattle.segv.specs.Bisection.{Ends, ends, Bisected, bisection, withMidpoint, converged, tighten, tightenAll, tightenOthers}
+use Rattle.segv.specs.Families.{openedAt, familyFrom, bisectedFamily, blankBracket, familyOf, Families, bothFamilies, eitherStopped}
 use Rattle.segv.specs.Row.{families, modeAt, Slices, writtenRow, answer, segvRow}
 
 -- a step that goes on counts one

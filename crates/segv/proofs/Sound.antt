@@ -1,21 +1,19 @@
 -- Every bracket that an accepted row hands out is sound.
 use Prim.Native.Nat.{ℕ, zero, suc, _+_, _-_, _/_, _%_, _≤_, _<_}
-use mathlib.Core.Path.{_≡_, refl, sym, ap, _∙_}
-use mathlib.Core.Logic.{_⊎_, inl, inr, ⊎-elim}
+use mathlib.Core.Path.{_≡_, refl, ap, _∙_}
+use mathlib.Core.Logic.{inl, inr}
 use mathlib.Core.Bool.{Bool, true, false, cond, _||_}
 use mathlib.Core.List.{List, [], _∷_}
 use native.Mathlib.Omega.{arith}
 use native.Mathlib.Decide.{ℕ-discrete}
 use borrow.Author.Tests.{leb-true, leb-false, ltb-true, ltb-false, eqb-true, eqb-false}
 use lib.Dec.{ltb, leb, eqb}
-use lib.ListN.{length, getD, set, replicate, length-set, length-replicate, getD-replicate}
+use lib.ListN.{length, getD, set, length-set, length-replicate, getD-replicate}
 use lib.Seq.{getD-set-same, getD-set-other}
 use lib.Ieee as Ieee
 use lib.Ieee.{Float, nan}
 use Rattle.sturm.specs.declared.gershgorin_bounds.Bounds.{Bounds}
 use Rattle.sturm.specs.Pivots.{negativePivots}
-use Rattle.sturm.specs.Bounds.{boundsOf}
-use Rattle.sturm.specs.Entries.{diagonal, offDiagonal, squares}
 use Rattle.arith.specs.Double.{at}
 use Rattle.arith.specs.Choice.{lesser, greater}
 use Rattle.segv.specs.declared.bisection.Bracket.{Bracket}
@@ -23,7 +21,7 @@ use Rattle.segv.specs.declared.bisection.Search.{Search}
 use Rattle.segv.specs.declared.bisection.Search.the-variants.{Converged, OutOfSteps}
 use Rattle.segv.specs.declared.families.Family.{Family}
 use Rattle.segv.specs.Bisection.{Ends, ends, Outcome, bisection, withMidpoint, converged, tighten, tightenAll, tightenOthers}
-use Rattle.segv.specs.Families.{firstBelow, raised, openedAt, familyFrom, onSearch, bisectedFamily, blankBracket, familyOf, Families, bothFamilies, eitherStopped}
+use Rattle.segv.specs.Families.{firstBelow, raised, openedAt, familyFrom, onSearch, bisectedFamily, blankBracket, familyOf, bothFamilies, eitherStopped}
 use Rattle.segv.specs.Row.{noBracket, modeAt}
 use Rattle.segv.specs.Sound.{Below, Above, Sound, SoundIn}
 

@@ -1,8 +1,8 @@
 use Rattle.segv.proofs.Laws as laws
-use Prim.Native.Nat.{suc, _-_, _+_}
+use Prim.Native.Nat.{_-_, _+_}
 use mathlib.Core.Path.{_≡_, refl, sym, _∙_}
 use native.Mathlib.Omega.{arith}
-use Rattle.segv.specs.Bisection.{bisection, withMidpoint, tighten, tightenAll, tightenOthers, ends, converged}
+use Rattle.segv.specs.Bisection.{bisection, ends, converged}
 use borrow.Author.Needs.{needs}
 use Rattle.segv.proofs.bisection.bisect.Statement.{statement}
 use Rattle.segv.proofs.bisection.bisect.Tie as tie

@@ -1,5 +1,5 @@
 use Prim.Native.Nat.{suc, _-_, _+_}
-use mathlib.Core.Path.{_≡_, refl, sym, _∙_}
+use mathlib.Core.Path.{_≡_, refl}
 use native.Mathlib.Omega.{arith}
 use Rattle.segv.specs.Families.{firstBelow}
 use borrow.Author.Needs.{needs}

@@ -3,7 +3,7 @@ use mathlib.Core.Path.{_≡_, refl, ap}
 use native.Mathlib.Omega.{arith}
 use native.Mathlib.Numerals.{add-one}
 use lib.ListN.{length, length-set}
-use Rattle.segv.specs.Row.{Slices, slices, written, writtenRow, families, modeAt}
+use Rattle.segv.specs.Row.{slices, written, writtenRow, families, modeAt}
 use borrow.Author.Needs.{needs}
 use Rattle.segv.proofs.row.write_row.Statement.{statement}
 use Rattle.segv.proofs.row.write_row.Tie as tie

@@ -1,4 +1,3 @@
-use mathlib.Core.Path.{refl}
 use borrow.Author.Tests.{lt-ltb, le-ltb}
 use Rattle.sturm.specs.Entries.{entryE}
 use borrow.Author.Needs.{needs}

@@ -1,8 +1,8 @@
 use Prim.Native.Nat.{_≤_, _-_}
-use mathlib.Core.Path.{_≡_, refl}
+use mathlib.Core.Path.{_≡_}
 use native.Mathlib.Omega.{arith}
 use native.Mathlib.Numerals.{add-one}
-use Rattle.sturm.specs.Entries.{firstEntries, blankEntries, entryD, entryE, entryF}
+use Rattle.sturm.specs.Entries.{firstEntries, entryD, entryE, entryF}
 use borrow.Author.Needs.{needs}
 use Rattle.sturm.proofs.entries.fill.Statement.{statement}
 use Rattle.sturm.proofs.entries.fill.Tie as tie

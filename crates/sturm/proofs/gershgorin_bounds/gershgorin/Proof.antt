@@ -2,7 +2,7 @@ use Prim.Native.Nat.{_≤_, _-_}
 use mathlib.Core.Path.{_≡_, refl}
 use native.Mathlib.Omega.{arith}
 use native.Mathlib.Numerals.{add-one}
-use Rattle.sturm.specs.Bounds.{boundsFrom, boundsOf, widen}
+use Rattle.sturm.specs.Bounds.{boundsFrom, boundsOf}
 use borrow.Author.Needs.{needs}
 use Rattle.sturm.proofs.gershgorin_bounds.gershgorin.Statement.{statement}
 use Rattle.sturm.proofs.gershgorin_bounds.gershgorin.Tie as tie

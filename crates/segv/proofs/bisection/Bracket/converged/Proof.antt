@@ -1,4 +1,3 @@
-use mathlib.Core.Path.{refl}
 use Rattle.segv.specs.Bisection.{converged}
 use borrow.Author.Needs.{needs}
 use Rattle.segv.proofs.bisection.Bracket.converged.Statement.{statement}

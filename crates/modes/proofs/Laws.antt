@@ -1,0 +1,164 @@
+-- How the definitions of refusals and rows unfold, in the form in which the proofs of the code meet them. Assumes nothing.
+use Prim.Native.Nat.{ℕ, _+_, _-_, _≤_, _<_}
+use native.Mathlib.Omega.{arith}
+use mathlib.Core.Path.{_≡_, refl, sym, ap, subst, _∙_}
+use mathlib.Core.Bool.{Bool, true, false, cond, _||_}
+use mathlib.Core.List.{List}
+use borrow.Author.Tests.{ltb-false, leb-false, le-ltb, le-leb, lt-leb, ne-eqb}
+use lib.Dec.{T, ltb, leb}
+use lib.IntN.{ℤ, pos, natAbs}
+use lib.Ieee.{Float, nan, inf, fin, lt, eq, ne, div, ofBits}
+use lib.Ieee.Compare.{differs-from-itself}
+use lib.ListN.{length, replicate}
+use mir.Syntax.{w32}
+use mir.Val.{toZ, ofZ}
+use mir.Facts.{toZ-ofZ}
+use Rattle.arith.specs.Double.{_⊘_, _⊗_, dbl, #0, #1, #2, #1e-10}
+use Rattle.arith.specs.Truncation.{truncate}
+use Rattle.arith.proofs.Flags.{not-left}
+use Rattle.arith.proofs.Unsigned.{Unsigned, dbl-unsigned, quotient-unsigned, sum-unsigned, unsigned-not-below}
+use Rattle.arith.proofs.Laws.{truncate-below}
+use Rattle.segv.specs.Families.{bothFamilies}
+use Rattle.segv.specs.Row.{Slices, slices, writtenRow, RowAnswer, answer, segvRow}
+use Rattle.modes.specs.declared.checking.Mode.{Mode}
+use Rattle.modes.specs.declared.checking.Kind.{Kind}
+use Rattle.modes.specs.Refusals.{outOfRange, noParameter, refusalOf, rowRefusal, hOf, entriesOf, #291, signOf}
+use Rattle.modes.specs.Rows.{zeroAt, rowIn, rowOf, tooShort, blankSlices, lessened, single, dlmfIn, dlmfOf}
+
+-- ---- refusal 5
+pub nan-refused : (c : Float) → ne c c ≡ true → true ≡ noParameter c
+unfolding noParameter
+nan-refused c h = sym (ap noParameter (differs-from-itself c (subst T (sym h) tt)))
+
+pub negative-refused : (c : Float) → lt c #0 ≡ true → true ≡ noParameter c
+unfolding noParameter
+negative-refused nan h = refl
+negative-refused (inf s) h = refl
+negative-refused (fin s m e) h = sym h
+
+pub infinite-refused : (c : Float) → ne c c ≡ false → lt c #0 ≡ false → eq c (#1 ⊘ #0) ≡ noParameter c
+unfolding noParameter ne eq lt div ofBits
+infinite-refused nan h k = not-left h
+infinite-refused (inf true) h k = not-left k
+infinite-refused (inf false) h k = refl
+infinite-refused (fin s m e) h k = sym k
+
+not-negative : (c : Float) → noParameter c ≡ false → lt c #0 ≡ false
+unfolding noParameter
+not-negative nan h = not-left h
+not-negative (inf s) h = not-left h
+not-negative (fin s m e) h = h
+
+-- ---- a mode that is not refused
+pub in-range : (x : Mode) → x .m ≤ 199 → x .m ≤ x .n → x .n - x .m ≤ 199 → outOfRange x ≡ false
+unfolding outOfRange
+in-range x a b c = rw (le-ltb 199 (x .m) a, le-ltb (x .n) (x .m) b, le-ltb 199 (x .n - x .m) c)
+
+pub record Accepted (x : Mode) : Type 0 where
+  pub order : x .m ≤ 199
+  pub rising : x .m ≤ x .n
+  pub span : x .n - x .m ≤ 199
+  pub parameter : noParameter (x .c) ≡ false
+  pub some : 10 ≤ entriesOf x
+  pub few : entriesOf x ≤ 300
+
+pub neither : (a b : Bool) → (a || b) ≡ false → (a ≡ false) × (b ≡ false)
+neither true b h = not-left h
+neither false b h = (refl, h)
+
+none-applies : (a b c : Bool) → _≡_ {A = ℕ} (cond a 4 (cond b 5 (cond c 0 6))) 0 → (a ≡ false) × (b ≡ false) × (c ≡ true)
+none-applies true b c h = absurd (omega arith)
+none-applies false true c h = absurd (omega arith)
+none-applies false false true h = (refl, refl, refl)
+none-applies false false false h = absurd (omega arith)
+
+-- H is not below zero where c is not, so that its whole part is a whole number
+h-whole : (x : Mode) → noParameter (x .c) ≡ false → lt (hOf x) #291 ≡ true → (t : ℕ) × (truncate (hOf x) ≡ pos t) × (t < 291)
+unfolding hOf ofBits
+h-whole x p l = truncate-below (hOf x) #291 291 (refl, refl) (omega arith) (omega arith) (unsigned-not-below (hOf x) (sum-unsigned (dbl (x .n - x .m) ⊘ #2) (x .c) (quotient-unsigned (dbl (x .n - x .m)) #2 (dbl-unsigned (x .n - x .m)) refl) (not-negative (x .c) p))) l
+
+passes : (x : Mode) → rowRefusal x ≡ 0 → (outOfRange x ≡ false) × (noParameter (x .c) ≡ false) × (lt (hOf x) #291 ≡ true)
+unfolding refusalOf
+passes x h = none-applies (outOfRange x) (noParameter (x .c)) (lt (hOf x) #291) h
+
+pub whole-part : (x : Mode) → rowRefusal x ≡ 0 → (t : ℕ) × (truncate (hOf x) ≡ pos t) × (t < 291)
+whole-part x h = let p = passes x h in h-whole x (p .1) (p .2)
+
+-- the whole part of H as the machine reads it back
+pub read-back : (x : Mode) (h : Float) (z : ℤ) → rowRefusal x ≡ 0 → h ≡ hOf x → z ≡ truncate h → (t : ℕ) × (toZ w32 (ofZ w32 z) ≡ pos t) × (t < 291) × (10 + t ≡ entriesOf x)
+unfolding entriesOf
+read-back x h z r hh hz =
+    let k = whole-part x r in
+    let e : z ≡ pos (k .0) = hz ∙ ap truncate hh ∙ k .1 in
+    (k .0, ap (λ (z : ℤ). toZ w32 (ofZ w32 z)) e ∙ toZ-ofZ {w = w32} {z = pos (k .0)} (record { sfits = omega (arith, k .2) }), k .2, ap (λ (z : ℤ). 10 + natAbs z) (sym (k .1)))
+
+pub accepted : (x : Mode) → rowRefusal x ≡ 0 → Accepted x
+unfolding outOfRange entriesOf
+accepted x h =
+    let p = passes x h in
+    let q = neither (ltb 199 (x .m) || ltb (x .n) (x .m)) (ltb 199 (x .n - x .m)) (p .0) in
+    let s = neither (ltb 199 (x .m)) (ltb (x .n) (x .m)) (q .0) in
+    let k = whole-part x h in
+    record {
+      order = ltb-false 199 (x .m) (s .0);
+      rising = ltb-false (x .n) (x .m) (s .1);
+      span = ltb-false 199 (x .n - x .m) (q .1);
+      parameter = p .1;
+      some = rw (k .1) (omega arith);
+      few = rw (k .1) (omega (arith, k .2));
+    }
+
+-- ---- the row of a mode that is not refused
+module _ (kind : Kind) (x : Mode) (allowance : ℕ) (l : Slices) where
+  pub zero-way : (y : Slices) → lt (x .c) #1e-10 ≡ true → y ≡ writtenRow (zeroAt (x .m)) (x .n - x .m + 1) l → answer 0 y ≡ rowIn kind x allowance l
+  unfolding rowIn
+  zero-way y h e = rw (h, e)
+
+  pub bisected-way : (a : RowAnswer) (s : Float) (k : ℕ) → lt (x .c) #1e-10 ≡ false → s ≡ signOf kind → k ≡ entriesOf x
+      → a ≡ segvRow (bothFamilies (x .m) (x .n) (x .c ⊗ x .c ⊗ s) k allowance) (x .n - x .m + 1) l → a ≡ rowIn kind x allowance l
+  unfolding rowIn
+  bisected-way a s k t hs hk e = rw (t, ← hs, ← hk) e
+
+  -- ---- the whole row
+  module _ (k : ℕ) (h : k ≡ rowRefusal x) where
+    pub early : (k ≡ 0 → ⊥) → answer k l ≡ rowOf kind x allowance l
+    unfolding rowOf
+    early n = rw (← h, ne-eqb k 0 n)
+
+    pub late : (a : RowAnswer) → k ≡ 0 → tooShort x l ≡ false → a ≡ rowIn kind x allowance l → a ≡ rowOf kind x allowance l
+    unfolding rowOf
+    late a z t e = rw (← h, z, t) e
+
+    pub short : k ≡ 0 → tooShort x l ≡ true → answer 9 l ≡ rowOf kind x allowance l
+    unfolding rowOf
+    short z t = rw (← h, z, t)
+
+pub long-enough : (x : Mode) (l : Slices) → x .n - x .m < length (l .values) → x .n - x .m < length (l .steps) → x .n - x .m < length (l .lowers) → x .n - x .m < length (l .uppers)
+    → tooShort x l ≡ false
+unfolding tooShort
+long-enough x l a b c d = rw (lt-leb _ _ a, lt-leb _ _ b, lt-leb _ _ c, lt-leb _ _ d)
+
+-- ---- DLMF's form
+module _ (kind : Kind) (x : Mode) (allowance : ℕ) (xs : List Float) (k : ℕ) (h : k ≡ rowRefusal x) where
+  pub dlmf-early : (k ≡ 0 → ⊥) → single k xs ≡ dlmfOf kind x allowance xs
+  unfolding dlmfOf
+  dlmf-early n = rw (← h, ne-eqb k 0 n)
+
+  module _ (z : k ≡ 0) where
+    pub dlmf-short : length xs ≤ x .n - x .m → single 9 xs ≡ dlmfOf kind x allowance xs
+    unfolding dlmfOf
+    dlmf-short l = rw (← h, z, le-leb (length xs) (x .n - x .m) l)
+
+    module _ (l : x .n - x .m < length xs) (v : List Float) (s : List ℕ) (w u : List Float) (hv : v ≡ replicate 200 #0) (hs : s ≡ replicate 200 0)
+        (hw : w ≡ replicate 200 #0) (hu : u ≡ replicate 200 #0) (a : RowAnswer) (ha : a ≡ rowIn kind x allowance (slices v s w u)) where
+      in-blank : a ≡ rowIn kind x allowance blankSlices
+      unfolding blankSlices
+      in-blank = ha ∙ rw (hv, hs, hw, hu)
+
+      pub dlmf-refused : (a .number ≡ 0 → ⊥) → single (a .number) xs ≡ dlmfOf kind x allowance xs
+      unfolding dlmfOf dlmfIn
+      dlmf-refused n = rw (← h, z, lt-leb (length xs) (x .n - x .m) l, ← in-blank, ne-eqb (a .number) 0 n)
+
+      pub dlmf-done : (ys : List Float) → a .number ≡ 0 → ys ≡ lessened (a .after .values) (x .c ⊗ x .c) (x .n - x .m + 1) xs → single 0 ys ≡ dlmfOf kind x allowance xs
+      unfolding dlmfOf dlmfIn
+      dlmf-done ys n e = rw (← h, z, lt-leb (length xs) (x .n - x .m) l, ← in-blank, n, e)

@@ -1,0 +1,100 @@
+use mathlib.Core.Path.{sym, ap, _∙_}
+use Prim.Native.Nat.{ℕ}
+use native.Mathlib.Omega.{arith}
+use lib.ListN.{length, length-replicate}
+use Rattle.arith.specs.Double.{#0}
+use Rattle.modes.proofs.Laws as laws
+use borrow.Author.Needs.{needs}
+use Rattle.modes.proofs.rows.dlmf_number.Statement.{statement}
+use Rattle.modes.proofs.rows.dlmf_number.Tie as tie
+
+row-refusal-requires : tie.Need-row-refusal-requires
+row-refusal-requires c κs = search needs
+
+returns : tie.Need-returns
+returns c = laws.dlmf-early _ _ _ _ _ (c .before .row-refusal .ensures) (c .if1 .taken)
+
+sub-last : tie.Need-sub-last
+sub-last c = let ok = laws.accepted (c .before .before .before .before .args .mode) (sym (c .before .before .row-refusal .ensures) ∙ c .before .if1 .left) in omega arith
+
+cast-last : tie.Need-cast-last
+cast-last c = search needs
+
+returns-2 : tie.Need-returns-2
+returns-2 c = laws.dlmf-short _ _ _ _ _ (c .before .before .before .row-refusal .ensures) (c .before .before .if1 .left) (c .if2 .taken)
+
+zero-doubles-requires : tie.Need-zero-doubles-requires
+zero-doubles-requires c κs = search needs
+
+zero-steps-requires : tie.Need-zero-steps-requires
+zero-steps-requires c κs = search needs
+
+zero-doubles-requires-2 : tie.Need-zero-doubles-requires-2
+zero-doubles-requires-2 c κs = search needs
+
+zero-doubles-requires-3 : tie.Need-zero-doubles-requires-3
+zero-doubles-requires-3 c κs = search needs
+
+slice-aggregate-row-in : tie.Need-slice-aggregate-row-in
+slice-aggregate-row-in c = search needs
+
+slice-aggregate-row-in-2 : tie.Need-slice-aggregate-row-in-2
+slice-aggregate-row-in-2 c = search needs
+
+slice-aggregate-row-in-3 : tie.Need-slice-aggregate-row-in-3
+slice-aggregate-row-in-3 c = search needs
+
+slice-aggregate-row-in-4 : tie.Need-slice-aggregate-row-in-4
+slice-aggregate-row-in-4 c = search needs
+
+row-in-requires : tie.Need-row-in-requires
+row-in-requires c κs =
+    let e = sym (c .before .before .before .before .before .before .before .before .before .before .before .row-refusal .ensures) ∙ c .before .before .before .before .before .before .before .before .before .before .if1 .left in
+    let ok = laws.accepted (c .before .before .before .before .before .before .before .before .before .before .before .before .before .args .mode) e in
+    let v = ap length (c .before .before .before .before .before .before .before .zero-doubles .ensures) ∙ length-replicate 200 #0 in
+    let s = ap length (c .before .before .before .before .before .before .zero-steps .ensures) ∙ length-replicate {A = ℕ} 200 0 in
+    let w = ap length (c .before .before .before .before .before .zero-doubles2 .ensures) ∙ length-replicate 200 #0 in
+    let u = ap length (c .before .before .before .before .zero-doubles3 .ensures) ∙ length-replicate 200 #0 in
+    (e, (omega arith, omega arith, omega arith, omega arith))
+
+returns-3 : tie.Need-returns-3
+returns-3 c = laws.dlmf-refused _ _ _ _ _ (c .before .before .before .before .before .before .before .before .before .before .before .before .before .before .before .before .before .row-refusal .ensures) (c .before .before .before .before .before .before .before .before .before .before .before .before .before .before .before .before .if1 .left) (c .before .before .before .before .before .before .before .before .before .before .before .before .before .before .if2 .left) _ _ _ _ (c .before .before .before .before .before .before .before .before .before .before .before .before .before .zero-doubles .ensures) (c .before .before .before .before .before .before .before .before .before .before .before .before .zero-steps .ensures) (c .before .before .before .before .before .before .before .before .before .before .before .zero-doubles2 .ensures) (c .before .before .before .before .before .before .before .before .before .before .zero-doubles3 .ensures) _ (c .before .before .before .before .before .row-in .ensures) (c .if3 .taken)
+
+add-lessen : tie.Need-add-lessen
+add-lessen c = search needs
+
+lessen-requires : tie.Need-lessen-requires
+lessen-requires c κs =
+    let ok = laws.accepted (c .before .before .before .before .before .before .before .before .before .before .before .before .before .before .before .before .before .before .before .before .before .before .args .mode) (sym (c .before .before .before .before .before .before .before .before .before .before .before .before .before .before .before .before .before .before .before .before .row-refusal .ensures) ∙ c .before .before .before .before .before .before .before .before .before .before .before .before .before .before .before .before .before .before .before .if1 .left) in
+    let h = c .before .before .before .before .before .before .before .before .before .before .before .before .before .before .before .before .before .if2 .left in
+    omega arith
+
+same-length : tie.Need-same-length
+same-length c = search needs
+
+returns-4 : tie.Need-returns-4
+returns-4 c = laws.dlmf-done _ _ _ _ _ (c .before .before .before .before .before .before .before .before .before .before .before .before .before .before .before .before .before .before .before .before .before .before .before .row-refusal .ensures) (c .before .before .before .before .before .before .before .before .before .before .before .before .before .before .before .before .before .before .before .before .before .before .if1 .left) (c .before .before .before .before .before .before .before .before .before .before .before .before .before .before .before .before .before .before .before .before .if2 .left) _ _ _ _ (c .before .before .before .before .before .before .before .before .before .before .before .before .before .before .before .before .before .before .before .zero-doubles .ensures) (c .before .before .before .before .before .before .before .before .before .before .before .before .before .before .before .before .before .before .zero-steps .ensures) (c .before .before .before .before .before .before .before .before .before .before .before .before .before .before .before .before .before .zero-doubles2 .ensures) (c .before .before .before .before .before .before .before .before .before .before .before .before .before .before .before .before .zero-doubles3 .ensures) _ (c .before .before .before .before .before .before .before .before .before .before .before .row-in .ensures) _ (c .before .before .before .before .before .before .if3 .left) (c .before .before .lessen .ensures)
+
+pub dlmf-number-spec : {M : Type 1} → statement M
+dlmf-number-spec =
+    tie.close
+    (tie.spec
+    row-refusal-requires
+    returns
+    sub-last
+    cast-last
+    returns-2
+    zero-doubles-requires
+    zero-steps-requires
+    zero-doubles-requires-2
+    zero-doubles-requires-3
+    slice-aggregate-row-in
+    slice-aggregate-row-in-2
+    slice-aggregate-row-in-3
+    slice-aggregate-row-in-4
+    row-in-requires
+    returns-3
+    add-lessen
+    lessen-requires
+    same-length
+    returns-4)

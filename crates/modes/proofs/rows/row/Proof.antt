@@ -1,0 +1,37 @@
+-- `modes::rows::row` meets its contract: the answer has the number that `row_number` gives. Assumes nothing.
+use borrow.Author.Needs.{needs}
+use Rattle.modes.proofs.rows.row.Statement.{statement}
+use Rattle.modes.proofs.rows.row.Tie as tie
+
+row-number-requires : tie.Need-row-number-requires
+row-number-requires c κs = search needs
+
+row-answer-requires : tie.Need-row-answer-requires
+row-answer-requires c κs = search needs
+
+same-length : tie.Need-same-length
+same-length c = search needs
+
+same-length-2 : tie.Need-same-length-2
+same-length-2 c = search needs
+
+same-length-3 : tie.Need-same-length-3
+same-length-3 c = search needs
+
+same-length-4 : tie.Need-same-length-4
+same-length-4 c = search needs
+
+returns : tie.Need-returns
+returns c = rw (c .row-answer .ensures) (c .before .before .before .before .before .before .before .before .before .row-number .ensures)
+
+pub row-spec : {M : Type 1} → statement M
+row-spec =
+    tie.close
+    (tie.spec
+    row-number-requires
+    row-answer-requires
+    same-length
+    same-length-2
+    same-length-3
+    same-length-4
+    returns)

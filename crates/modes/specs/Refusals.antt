@@ -1,0 +1,51 @@
+-- The refusals of a mode, in document 01's order. Definitions only.
+use Prim.Native.Nat.{ℕ, _+_, _-_}
+use mathlib.Core.Bool.{Bool, true, cond, _||_}
+use lib.Dec.{ltb}
+use lib.IntN.{natAbs}
+use lib.Ieee.{Float, nan, inf, fin, lt, neg}
+use Rattle.arith.specs.Double.{_⊕_, _⊘_, dbl, bits, #0, #1, #2}
+use Rattle.arith.specs.Truncation.{truncate}
+use Rattle.modes.specs.declared.checking.Kind.{Kind}
+use Rattle.modes.specs.declared.checking.Kind.the-variants.{Prolate, Oblate}
+use Rattle.modes.specs.declared.checking.Mode.{Mode}
+
+-- the sign kd is 1 for prolate, −1 for oblate
+unfoldable pub signOf : Kind → Float
+signOf Prolate = #1
+signOf Oblate = neg #1
+
+-- H = (n − m)/2 + c in doubles
+unfoldable pub hOf : Mode → Float
+hOf x = dbl (x .n - x .m) ⊘ #2 ⊕ x .c
+
+-- K is 10 + H truncated
+unfoldable pub entriesOf : Mode → ℕ
+entriesOf x = 10 + natAbs (truncate (hOf x))
+
+-- ---- the limits 291 and 175
+abbrev pub #291 : Float
+#291 = bits 0x4072_3000_0000_0000
+
+abbrev pub #175 : Float
+#175 = bits 0x4065_e000_0000_0000
+
+-- ---- 4: m > 199, n < m, or n − m > 199
+unfoldable pub outOfRange : Mode → Bool
+outOfRange x = ltb 199 (x .m) || ltb (x .n) (x .m) || ltb 199 (x .n - x .m)
+
+-- ---- 5: c is NaN, infinite or below zero
+unfoldable pub noParameter : Float → Bool
+noParameter nan = true
+noParameter (inf s) = true
+noParameter (fin s m e) = lt (fin s m e) #0
+
+-- ---- the first of 4, 5 and 6 that applies, or 0 for none; 6 is that H is the limit or more
+unfoldable pub refusalOf : Float → Mode → ℕ
+refusalOf limit x = cond (outOfRange x) 4 (cond (noParameter (x .c)) 5 (cond (lt (hOf x) limit) 0 6))
+
+abbrev pub rowRefusal : Mode → ℕ
+rowRefusal x = refusalOf #291 x
+
+abbrev pub modeRefusal : Mode → ℕ
+modeRefusal x = refusalOf #175 x

@@ -1,0 +1,72 @@
+-- The row of characteristic values of a mode. Definitions only.
+use Prim.Native.Nat.{ℕ, zero, suc, _+_, _-_}
+use mathlib.Core.Bool.{Bool, cond, _||_}
+use mathlib.Core.List.{List}
+use lib.Dec.{leb, eqb}
+use lib.ListN.{length, set, replicate}
+use lib.Ieee.{Float, lt}
+use Rattle.arith.specs.Double.{_⊖_, _⊗_, dbl, at, #0, #1e-10}
+use Rattle.segv.specs.declared.bisection.Bracket.{Bracket}
+use Rattle.segv.specs.Families.{bothFamilies}
+use Rattle.segv.specs.Row.{Slices, slices, writtenRow, RowAnswer, answer, segvRow}
+use Rattle.modes.specs.declared.checking.Kind.{Kind}
+use Rattle.modes.specs.declared.checking.Mode.{Mode}
+use Rattle.modes.specs.declared.rows.RowAnswer as Given
+use Rattle.modes.specs.declared.rows.RowAnswer.the-variants.{Filled, Refused}
+use Rattle.modes.specs.Refusals.{signOf, entriesOf, rowRefusal}
+
+-- document 01's number for an answer, and 0 where nothing was refused
+unfoldable pub numberOf : Given.RowAnswer → ℕ
+numberOf Filled = 0
+numberOf (Refused k) = k
+
+-- ---- the row
+
+-- 9: a slice has fewer than n − m + 1 places
+unfoldable pub tooShort : Mode → Slices → Bool
+tooShort x l =
+    leb (length (l .values)) (x .n - x .m) || leb (length (l .steps)) (x .n - x .m) || leb (length (l .lowers)) (x .n - x .m) || leb (length (l .uppers)) (x .n - x .m)
+
+-- value j is (m + j)(m + j + 1), lower and upper equal it, steps are 0
+unfoldable pub zeroAt : ℕ → ℕ → Bracket
+zeroAt m j = let v = dbl (m + j) ⊗ dbl (m + j + 1) in record { value = v; lower = v; upper = v; steps = 0 }
+
+-- where c < 1e-10 the zero-parameter row, and else the bisected one, with cs = c × c × kd and K entries
+unfoldable pub rowIn : Kind → Mode → ℕ → Slices → RowAnswer
+rowIn kind x allowance l =
+    cond (lt (x .c) #1e-10) (answer 0 (writtenRow (zeroAt (x .m)) (x .n - x .m + 1) l))
+    (segvRow (bothFamilies (x .m) (x .n) (x .c ⊗ x .c ⊗ signOf kind) (entriesOf x) allowance) (x .n - x .m + 1) l)
+
+-- refused 4, 5, 6 or 9, the slices stay as they were
+unfoldable pub rowOf : Kind → Mode → ℕ → Slices → RowAnswer
+rowOf kind x allowance l =
+    let r = cond (tooShort x l) (answer 9 l) (rowIn kind x allowance l) in
+    cond (eqb (rowRefusal x) 0) r (answer (rowRefusal x) l)
+
+-- ---- DLMF's form
+
+-- room for a row of 200 modes
+unfoldable pub blankSlices : Slices
+blankSlices = slices (replicate 200 #0) (replicate 200 0) (replicate 200 #0) (replicate 200 #0)
+
+-- a list with the first n values, each less x, in its first n places
+unfoldable pub lessened : List Float → Float → ℕ → List Float → List Float
+lessened values x zero xs = xs
+lessened values x (suc n) xs = set (lessened values x n xs) n (at values n ⊖ x)
+
+-- a refusal's number, or 0 for none, and the slice afterwards
+pub record DlmfAnswer : Type 0 where
+  pub number : ℕ
+  pub after : List Float
+
+abbrev pub single : ℕ → List Float → DlmfAnswer
+single k xs = record { number = k; after = xs }
+
+-- from the answer of the row: each value less c × c
+unfoldable pub dlmfIn : Mode → RowAnswer → List Float → DlmfAnswer
+dlmfIn x a xs = cond (eqb (a .number) 0) (single 0 (lessened (a .after .values) (x .c ⊗ x .c) (x .n - x .m + 1) xs)) (single (a .number) xs)
+
+unfoldable pub dlmfOf : Kind → Mode → ℕ → List Float → DlmfAnswer
+dlmfOf kind x allowance xs =
+    let r = cond (leb (length xs) (x .n - x .m)) (single 9 xs) (dlmfIn x (rowIn kind x allowance blankSlices) xs) in
+    cond (eqb (rowRefusal x) 0) r (single (rowRefusal x) xs)

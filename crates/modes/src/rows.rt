@@ -1,0 +1,192 @@
+// Rows of characteristic values.
+ghost use mathlib.Core.Path.{_≡_};
+ghost use Prim.Native.Nat.{_-_, _<_, _≤_};
+ghost use lib.ListN.{length, replicate};
+ghost use Rattle.arith.specs.Double.{#0};
+ghost use Rattle.segv.specs.Row.{slices, writtenRow, answer};
+ghost use Rattle.modes.specs.Refusals.{rowRefusal};
+ghost use Rattle.modes.specs.Rows.{zeroAt, rowIn, rowOf, lessened, single, dlmfOf, numberOf};
+use super::checking::Kind;
+use super::checking::Mode;
+
+pub enum RowAnswer {
+    // The slices hold the row.
+    Filled,
+    // Document 01's number; the slices are as they were.
+    Refused(u8),
+}
+
+fn row_answer(number: u8) -> RowAnswer
+    ensures { λ r. ⌜ numberOf r ≡ number ⌝ }
+{
+    if number == 0 {
+        return RowAnswer::Filled;
+    }
+    RowAnswer::Refused(number)
+}
+
+// The row where c is below 1e-10.
+fn zero_row(
+    m: u32,
+    n: usize,
+    values: &mut [f64],
+    steps: &mut [u16],
+    lowers: &mut [f64],
+    uppers: &mut [f64],
+)
+    requires { ⌜ (m < 1000) × (n ≤ 200) × (n ≤ length (now values)) × (n ≤ length (now steps)) × (n ≤ length (now lowers)) × (n ≤ length (now uppers)) ⌝ }
+    ensures { λ _. ⌜ slices (now (values .exit)) (now (steps .exit)) (now (lowers .exit)) (now (uppers .exit))
+        ≡ writtenRow (zeroAt m) n (slices (now (values .entry)) (now (steps .entry)) (now (lowers .entry)) (now (uppers .entry))) ⌝ }
+{
+    let mut j: usize = 0;
+    while j < n {
+        let k = m + (j as u32);
+        let v = (k as f64) * ((k + 1) as f64);
+        values[j] = v;
+        steps[j] = 0;
+        lowers[j] = v;
+        uppers[j] = v;
+        j = j + 1;
+    }
+}
+
+// The row of a mode that is not refused, into slices that are long enough: 0, or 10.
+fn row_in(
+    kind: Kind,
+    mode: Mode,
+    allowance: u16,
+    values: &mut [f64],
+    steps: &mut [u16],
+    lowers: &mut [f64],
+    uppers: &mut [f64],
+) -> u8
+    requires { ⌜ rowRefusal mode ≡ 0 ⌝ }
+    requires { ⌜ (mode .n - mode .m < length (now values)) × (mode .n - mode .m < length (now steps)) × (mode .n - mode .m < length (now lowers)) × (mode .n - mode .m < length (now uppers)) ⌝ }
+    ensures { λ r. ⌜ answer r (slices (now (values .exit)) (now (steps .exit)) (now (lowers .exit)) (now (uppers .exit)))
+        ≡ rowIn kind mode allowance (slices (now (values .entry)) (now (steps .entry)) (now (lowers .entry)) (now (uppers .entry))) ⌝ }
+{
+    let c = mode.c;
+    let m = mode.m as u32;
+    let n = mode.n as u32;
+    if c < 1e-10 {
+        zero_row(m, (n - m + 1) as usize, values, steps, lowers, uppers);
+        return 0;
+    }
+    let cs = c * c * super::checking::sign(kind);
+    let entries = mode.entries();
+    segv::segv(m, n, cs, entries, allowance, values, steps, lowers, uppers)
+}
+
+// The refusal's number, or 0 with the slices filled.
+fn row_number(
+    kind: Kind,
+    mode: Mode,
+    allowance: u16,
+    values: &mut [f64],
+    steps: &mut [u16],
+    lowers: &mut [f64],
+    uppers: &mut [f64],
+) -> u8
+    ensures { λ r. ⌜ answer r (slices (now (values .exit)) (now (steps .exit)) (now (lowers .exit)) (now (uppers .exit)))
+        ≡ rowOf kind mode allowance (slices (now (values .entry)) (now (steps .entry)) (now (lowers .entry)) (now (uppers .entry))) ⌝ }
+{
+    let refused = mode.row_refusal();
+    if refused != 0 {
+        return refused;
+    }
+    let last = (mode.n - mode.m) as usize;
+    if values.len() <= last {
+        return 9;
+    }
+    if steps.len() <= last {
+        return 9;
+    }
+    if lowers.len() <= last {
+        return 9;
+    }
+    if uppers.len() <= last {
+        return 9;
+    }
+    row_in(kind, mode, allowance, values, steps, lowers, uppers)
+}
+
+// The characteristic values of the modes from m to n, each with its step number and the bracket
+// that its stopping test used. Refusals 4, 5, 6, 9 and 10.
+pub fn row(
+    kind: Kind,
+    mode: Mode,
+    allowance: u16,
+    values: &mut [f64],
+    steps: &mut [u16],
+    lowers: &mut [f64],
+    uppers: &mut [f64],
+) -> RowAnswer
+    ensures { λ r. ⌜ answer (numberOf r) (slices (now (values .exit)) (now (steps .exit)) (now (lowers .exit)) (now (uppers .exit)))
+        ≡ rowOf kind mode allowance (slices (now (values .entry)) (now (steps .entry)) (now (lowers .entry)) (now (uppers .entry))) ⌝ }
+{
+    row_answer(row_number(kind, mode, allowance, values, steps, lowers, uppers))
+}
+
+// Two hundred zeros. Made by a call, an array is one value in the caller's proof.
+fn zero_doubles() -> [f64; 200]
+    ensures { λ r. ⌜ r ≡ replicate 200 #0 ⌝ }
+{
+    [0.0; 200]
+}
+
+fn zero_steps() -> [u16; 200]
+    ensures { λ r. ⌜ r ≡ replicate 200 0 ⌝ }
+{
+    [0; 200]
+}
+
+// The first n values, each less x.
+fn lessen(values: &[f64; 200], x: f64, n: usize, out: &mut [f64])
+    requires { ⌜ (n ≤ 200) × (n ≤ length (now out)) ⌝ }
+    ensures { λ _. ⌜ now (out .exit) ≡ lessened (now (values .entry)) x n (now (out .entry)) ⌝ }
+{
+    let mut j: usize = 0;
+    while j < n {
+        out[j] = values[j] - x;
+        j = j + 1;
+    }
+}
+
+// The refusal's number, or 0 with the slice filled.
+fn dlmf_number(kind: Kind, mode: Mode, allowance: u16, out: &mut [f64]) -> u8
+    ensures { λ r. ⌜ single r (now (out .exit)) ≡ dlmfOf kind mode allowance (now (out .entry)) ⌝ }
+{
+    let refused = mode.row_refusal();
+    if refused != 0 {
+        return refused;
+    }
+    let last = (mode.n - mode.m) as usize;
+    if out.len() <= last {
+        return 9;
+    }
+    let mut values = zero_doubles();
+    let mut steps = zero_steps();
+    let mut lowers = zero_doubles();
+    let mut uppers = zero_doubles();
+    let number = row_in(
+        kind,
+        mode,
+        allowance,
+        &mut values,
+        &mut steps,
+        &mut lowers,
+        &mut uppers,
+    );
+    if number != 0 {
+        return number;
+    }
+    lessen(&values, mode.c * mode.c, last + 1, out);
+    0
+}
+
+// The row in DLMF's form: each value less c * c. Refusals 4, 5, 6, 9 and 10.
+pub fn dlmf_row(kind: Kind, mode: Mode, allowance: u16, values: &mut [f64]) -> RowAnswer
+    ensures { λ r. ⌜ single (numberOf r) (now (values .exit)) ≡ dlmfOf kind mode allowance (now (values .entry)) ⌝ }
+{
+    row_answer(dlmf_number(kind, mode, allowance, values))
+}

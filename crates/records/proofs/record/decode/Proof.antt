@@ -1,0 +1,81 @@
+-- `records::record::decode` meets its contract. Assumes nothing.
+use borrow.Author.Needs.{needs}
+use Rattle.records.proofs.record.decode.Statement.{statement}
+use Rattle.records.proofs.record.decode.Tie as tie
+
+add-t3 : tie.Need-add-t3
+add-t3 c = search needs
+
+shared-slice-read-t5 : tie.Need-shared-slice-read-t5
+shared-slice-read-t5 c = search needs
+
+add-number-2 : tie.Need-add-number-2
+add-number-2 c = search needs
+
+number-2-requires : tie.Need-number-2-requires
+number-2-requires c κs = search needs
+
+add-number-2-2 : tie.Need-add-number-2-2
+add-number-2-2 c = search needs
+
+number-2-requires-2 : tie.Need-number-2-requires-2
+number-2-requires-2 c κs = search needs
+
+add-number-2-3 : tie.Need-add-number-2-3
+add-number-2-3 c = search needs
+
+number-2-requires-3 : tie.Need-number-2-requires-3
+number-2-requires-3 c κs = search needs
+
+add-number-8 : tie.Need-add-number-8
+add-number-8 c = search needs
+
+number-8-requires : tie.Need-number-8-requires
+number-8-requires c κs = search needs
+
+from-bits-requires : tie.Need-from-bits-requires
+from-bits-requires c κs = search needs
+
+add-number-8-2 : tie.Need-add-number-8-2
+add-number-8-2 c = search needs
+
+number-8-requires-2 : tie.Need-number-8-requires-2
+number-8-requires-2 c κs = search needs
+
+from-bits-requires-2 : tie.Need-from-bits-requires-2
+from-bits-requires-2 c κs = search needs
+
+add-number-8-3 : tie.Need-add-number-8-3
+add-number-8-3 c = search needs
+
+number-8-requires-3 : tie.Need-number-8-requires-3
+number-8-requires-3 c κs = search needs
+
+from-bits-requires-3 : tie.Need-from-bits-requires-3
+from-bits-requires-3 c κs = search needs
+
+returns : tie.Need-returns
+returns c = cc
+
+pub decode-spec : {M : Type 1} → statement M
+decode-spec =
+    tie.close
+    (tie.spec
+    add-t3
+    shared-slice-read-t5
+    add-number-2
+    number-2-requires
+    add-number-2-2
+    number-2-requires-2
+    add-number-2-3
+    number-2-requires-3
+    add-number-8
+    number-8-requires
+    from-bits-requires
+    add-number-8-2
+    number-8-requires-2
+    from-bits-requires-2
+    add-number-8-3
+    number-8-requires-3
+    from-bits-requires-3
+    returns)

@@ -1,0 +1,81 @@
+-- Worked examples of the definitions, each table with one theorem over it.
+use mathlib.Core.Path.{_≡_, refl}
+use mathlib.Core.List.{List, [], _∷_, _++_, map}
+use Prim.Native.Nat.{ℕ}
+use lib.Ieee.{nan, ofBits, toBits}
+use lib.ListN.{take, replicate}
+use Rattle.arith.specs.Double.{bits, #0, #1, #2}
+use Rattle.records.specs.declared.record.Next.{Next}
+use Rattle.records.specs.declared.record.Next.the-variants.{Whole, Refused, End}
+use Rattle.records.specs.Record.{numberAt, nextAt}
+use Rattle.records.specs.Text.{digit, decimalIn, hexadecimal}
+use Rattle.records.specs.Lines.{vLine, dLine, rLine}
+
+-- ---- records
+
+-- document 01's two records: operation 1 with n 2, then operation 3, all else zero
+abbrev pub first : List ℕ
+first = 0x53 ∷ 0x57 ∷ 1 ∷ 0 ∷ 0 ∷ 2 ∷ replicate 27 0
+
+abbrev pub second : List ℕ
+second = 0x53 ∷ 0x57 ∷ 3 ∷ replicate 30 0
+
+-- operation 4, m 0102, n 0304, allowance fffe, c 1, cv a NaN that is not the one written, x -0
+abbrev pub third : List ℕ
+third =
+    0x53 ∷ 0x57 ∷ 4 ∷ 0x02 ∷ 0x01 ∷ 0x04 ∷ 0x03 ∷ 0xfe ∷ 0xff ∷
+    (replicate 6 0 ++ 0xf0 ∷ 0x3f ∷ 0x01 ∷ replicate 5 0 ++ 0xf8 ∷ 0xff ∷ replicate 7 0 ++ 0x80 ∷ [])
+
+-- An input, an index, and what the input has from there on.
+abbrev pub inputs : List (List ℕ × ℕ × Next)
+inputs =
+    (first ++ second, 0, Whole (record { operation = 1; m = 0; n = 2; allowance = 0; c = #0; cv = #0; x = #0 })) ∷
+    (first ++ second, 33, Whole (record { operation = 3; m = 0; n = 0; allowance = 0; c = #0; cv = #0; x = #0 })) ∷
+    (third, 0, Whole (record { operation = 4; m = 0x0102; n = 0x0304; allowance = 0xfffe; c = #1; cv = nan; x = bits 0x8000_0000_0000_0000 })) ∷
+    -- all has been read
+    (first ++ second, 66, End) ∷
+    ([], 0, End) ∷
+    -- a byte is missing; only one byte is there, and no mark starts with it
+    (first ++ take 32 second, 33, Refused 1) ∷
+    (0x57 ∷ [], 0, Refused 1) ∷
+    -- the mark turned round; one byte of it alone
+    (0x57 ∷ 0x53 ∷ replicate 31 0, 0, Refused 2) ∷
+    (0x53 ∷ replicate 32 0, 0, Refused 2) ∷
+    []
+
+pub inputs-right : map (λ (row : List ℕ × ℕ × Next). nextAt (row .0) (row .1)) inputs ≡ map (λ (row : List ℕ × ℕ × Next). row .2) inputs
+unfolding nextAt numberAt ofBits
+inputs-right = refl
+
+-- ---- lines, by their ASCII codes: 30 to 39 are the digits, 61 to 66 are a to f, 20 is a space, 0a ends the line
+
+-- sixteen zeros; 4 and 4018 with zeros up to sixteen digits; each after a space
+abbrev pub zeros : List ℕ
+zeros = 0x20 ∷ replicate 16 0x30
+
+abbrev pub twos : List ℕ
+twos = 0x20 ∷ 0x34 ∷ replicate 15 0x30
+
+abbrev pub sixes : List ℕ
+sixes = 0x20 ∷ 0x34 ∷ 0x30 ∷ 0x31 ∷ 0x38 ∷ replicate 12 0x30
+
+-- A line and its text.
+abbrev pub lines : List (List ℕ × List ℕ)
+lines =
+    -- document 01's `V` lines: V 0 0 0, V 0 1 0, V 0 2 0, each with its value three times
+    (vLine 0 0 0 #0 #0 #0, 0x56 ∷ 0x20 ∷ 0x30 ∷ 0x20 ∷ 0x30 ∷ 0x20 ∷ 0x30 ∷ zeros ++ zeros ++ zeros ++ 0x0a ∷ []) ∷
+    (vLine 0 1 0 #2 #2 #2, 0x56 ∷ 0x20 ∷ 0x30 ∷ 0x20 ∷ 0x31 ∷ 0x20 ∷ 0x30 ∷ twos ++ twos ++ twos ++ 0x0a ∷ []) ∷
+    (vLine 0 2 0 (bits 0x4018_0000_0000_0000) (bits 0x4018_0000_0000_0000) (bits 0x4018_0000_0000_0000), 0x56 ∷ 0x20 ∷ 0x30 ∷ 0x20 ∷ 0x32 ∷ 0x20 ∷ 0x30 ∷ sixes ++ sixes ++ sixes ++ 0x0a ∷ []) ∷
+    -- V 10 199 65535 with 0, 2 and 6
+    (vLine 10 199 65535 #0 #2 (bits 0x4018_0000_0000_0000), 0x56 ∷ 0x20 ∷ 0x31 ∷ 0x30 ∷ 0x20 ∷ 0x31 ∷ 0x39 ∷ 0x39 ∷ 0x20 ∷ 0x36 ∷ 0x35 ∷ 0x35 ∷ 0x33 ∷ 0x35 ∷ zeros ++ twos ++ sixes ++ 0x0a ∷ []) ∷
+    -- D 7 3 3ff6a09e667f3bcd
+    (dLine 7 3 (bits 0x3ff6_a09e_667f_3bcd), 0x44 ∷ 0x20 ∷ 0x37 ∷ 0x20 ∷ 0x33 ∷ 0x20 ∷ 0x33 ∷ 0x66 ∷ 0x66 ∷ 0x36 ∷ 0x61 ∷ 0x30 ∷ 0x39 ∷ 0x65 ∷ 0x36 ∷ 0x36 ∷ 0x37 ∷ 0x66 ∷ 0x33 ∷ 0x62 ∷ 0x63 ∷ 0x64 ∷ 0x0a ∷ []) ∷
+    -- D 7 4 7ff8000000000000, a NaN
+    (dLine 7 4 nan, 0x44 ∷ 0x20 ∷ 0x37 ∷ 0x20 ∷ 0x34 ∷ 0x20 ∷ 0x37 ∷ 0x66 ∷ 0x66 ∷ 0x38 ∷ replicate 12 0x30 ++ 0x0a ∷ []) ∷
+    -- R 18446744073709551615 10
+    (rLine 18446744073709551615 10, 0x52 ∷ 0x20 ∷ 0x31 ∷ 0x38 ∷ 0x34 ∷ 0x34 ∷ 0x36 ∷ 0x37 ∷ 0x34 ∷ 0x34 ∷ 0x30 ∷ 0x37 ∷ 0x33 ∷ 0x37 ∷ 0x30 ∷ 0x39 ∷ 0x35 ∷ 0x35 ∷ 0x31 ∷ 0x36 ∷ 0x31 ∷ 0x35 ∷ 0x20 ∷ 0x31 ∷ 0x30 ∷ 0x0a ∷ []) ∷
+    []
+
+pub lines-right : map (λ (row : List ℕ × List ℕ). row .0) lines ≡ map (λ (row : List ℕ × List ℕ). row .1) lines
+unfolding decimalIn hexadecimal digit ofBits toBits
+lines-right = refl

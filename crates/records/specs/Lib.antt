@@ -1,0 +1,4 @@
+pub mod Record
+pub mod Text
+pub mod Lines
+pub mod Examples

@@ -1,0 +1,94 @@
+// The lines that the program writes, into a lent buffer. Each function puts its line at a place and
+// answers the place after it. It asks for room for the longest line of its kind.
+ghost use mathlib.Core.Path.{_≡_};
+ghost use mathlib.Core.List.{_∷_};
+ghost use Prim.Native.Nat.{_+_, _≤_};
+ghost use lib.ListN.{length};
+ghost use Rattle.records.specs.Text.{Put};
+ghost use Rattle.records.specs.Lines.{number, double, vLine, dLine, rLine, bracket};
+use super::text;
+
+// A space and a number.
+fn number(out: &mut [u8], at: usize, n: u64) -> usize
+    requires { ⌜ at + length (number n) ≤ length (now out) ⌝ }
+    ensures { λ r. ⌜ Put (now (out .entry)) (now (out .exit)) at r (number n) ⌝ }
+{
+    let a = text::byte(out, at, b' ');
+    text::decimal(out, a, n)
+}
+
+// A space and a double.
+fn double(out: &mut [u8], at: usize, x: f64) -> usize
+    requires { ⌜ at + 17 ≤ length (now out) ⌝ }
+    ensures { λ r. ⌜ Put (now (out .entry)) (now (out .exit)) at r (double x) ⌝ }
+    ensures { λ r. ⌜ r ≡ at + 17 ⌝ }
+{
+    let a = text::byte(out, at, b' ');
+    text::hexadecimal(out, a, arith::to_bits(x))
+}
+
+// A line's letter and the number of its record.
+fn start(out: &mut [u8], at: usize, letter: u8, index: u64) -> usize
+    requires { ⌜ at + 22 ≤ length (now out) ⌝ }
+    ensures { λ r. ⌜ Put (now (out .entry)) (now (out .exit)) at r (letter ∷ number index) ⌝ }
+    ensures { λ r. ⌜ r ≤ at + 22 ⌝ }
+{
+    let a = text::byte(out, at, letter);
+    number(out, a, index)
+}
+
+// A value with the two ends of its bracket, and the line's end.
+fn bracket(out: &mut [u8], at: usize, value: f64, lower: f64, upper: f64) -> usize
+    requires { ⌜ at + 52 ≤ length (now out) ⌝ }
+    ensures { λ r. ⌜ Put (now (out .entry)) (now (out .exit)) at r (bracket value lower upper) ⌝ }
+    ensures { λ r. ⌜ r ≡ at + 52 ⌝ }
+{
+    let a = double(out, at, value);
+    let b = double(out, a, lower);
+    let c = double(out, b, upper);
+    text::byte(out, c, b'\n')
+}
+
+// The line of a mode in a row.
+pub fn v_line(
+    out: &mut [u8],
+    at: usize,
+    index: u64,
+    mode: u16,
+    steps: u16,
+    value: f64,
+    lower: f64,
+    upper: f64,
+) -> usize
+    requires { ⌜ at + 86 ≤ length (now out) ⌝ }
+    ensures { λ r. ⌜ Put (now (out .entry)) (now (out .exit)) at r (vLine index mode steps value lower upper) ⌝ }
+    ensures { λ r. ⌜ r ≤ at + 86 ⌝ }
+{
+    let a = start(out, at, b'V', index);
+    let b = number(out, a, mode as u64);
+    let c = number(out, b, steps as u64);
+    bracket(out, c, value, lower, upper)
+}
+
+// The line of a mode in a row of DLMF's form.
+pub fn d_line(out: &mut [u8], at: usize, index: u64, mode: u16, value: f64) -> usize
+    requires { ⌜ at + 46 ≤ length (now out) ⌝ }
+    ensures { λ r. ⌜ Put (now (out .entry)) (now (out .exit)) at r (dLine index mode value) ⌝ }
+    ensures { λ r. ⌜ r ≤ at + 46 ⌝ }
+{
+    let a = start(out, at, b'D', index);
+    let b = number(out, a, mode as u64);
+    let c = double(out, b, value);
+    text::byte(out, c, b'\n')
+}
+
+// The line of a record that is refused.
+pub fn r_line(out: &mut [u8], at: usize, index: u64, refusal: u8) -> usize
+    requires { ⌜ at + 27 ≤ length (now out) ⌝ }
+    ensures { λ r. ⌜ Put (now (out .entry)) (now (out .exit)) at r (rLine index refusal) ⌝ }
+    ensures { λ r. ⌜ r ≤ at + 27 ⌝ }
+{
+    let a = start(out, at, b'R', index);
+    let b = number(out, a, refusal as u64);
+    text::byte(out, b, b'\n')
+}

@@ -1,0 +1,54 @@
+// Text into a lent buffer. Each function puts its text at a place and answers the place after it;
+// the caller sees to it that the text fits. No other byte of the buffer changes.
+ghost use mathlib.Core.Path.{_≡_};
+ghost use mathlib.Core.List.{[], _∷_};
+ghost use Prim.Native.Nat.{_+_, _<_, _≤_};
+ghost use lib.ListN.{length};
+ghost use Rattle.records.specs.Text.{Put, digit, decimal, hexadecimal};
+
+// The ASCII code of a digit.
+fn digit(d: u64) -> u8
+    requires { ⌜ d < 16 ⌝ }
+    ensures { λ r. ⌜ r ≡ digit d ⌝ }
+{
+    if d < 10 { 48 + d as u8 } else { 87 + d as u8 }
+}
+
+// One byte.
+pub fn byte(out: &mut [u8], at: usize, b: u8) -> usize
+    requires { ⌜ at < length (now out) ⌝ }
+    ensures { λ r. ⌜ Put (now (out .entry)) (now (out .exit)) at r (b ∷ []) ⌝ }
+{
+    out[at] = b;
+    at + 1
+}
+
+// A number in decimal. It calls itself for the digits before the last, at most 19 calls deep.
+pub fn decimal(out: &mut [u8], at: usize, n: u64) -> usize
+    requires { ⌜ at + length (decimal n) ≤ length (now out) ⌝ }
+    ensures { λ r. ⌜ Put (now (out .entry)) (now (out .exit)) at r (decimal n) ⌝ }
+{
+    if n < 10 {
+        byte(out, at, digit(n))
+    } else {
+        let last = decimal(out, at, n / 10);
+        byte(out, last, digit(n % 10))
+    }
+}
+
+// A number as 16 hexadecimal digits, the last one put first.
+pub fn hexadecimal(out: &mut [u8], at: usize, n: u64) -> usize
+    requires { ⌜ at + 16 ≤ length (now out) ⌝ }
+    ensures { λ r. ⌜ Put (now (out .entry)) (now (out .exit)) at r (hexadecimal 16 n) ⌝ }
+    ensures { λ r. ⌜ r ≡ at + 16 ⌝ }
+{
+    let mut rest = n;
+    let mut i: usize = 16;
+    while i > 0 {
+        i -= 1;
+        let p = at + i;
+        out[p] = digit(rest % 16);
+        rest /= 16;
+    }
+    at + 16
+}
