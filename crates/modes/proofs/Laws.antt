@@ -4,8 +4,8 @@ use native.Mathlib.Omega.{arith}
 use mathlib.Core.Path.{_≡_, refl, sym, ap, subst, _∙_}
 use mathlib.Core.Bool.{Bool, true, false, cond, _||_}
 use mathlib.Core.List.{List}
-use borrow.Author.Tests.{ltb-false, leb-false, le-ltb, le-leb, lt-leb, ne-eqb}
-use lib.Dec.{T, ltb, leb}
+use borrow.Author.Tests.{ltb-false, le-ltb, le-leb, lt-leb, ne-eqb}
+use lib.Dec.{T, ltb}
 use lib.IntN.{ℤ, pos, natAbs}
 use lib.Ieee.{Float, nan, inf, fin, lt, eq, ne, div, ofBits}
 use lib.Ieee.Compare.{differs-from-itself}
@@ -16,7 +16,7 @@ use mir.Facts.{toZ-ofZ}
 use Rattle.arith.specs.Double.{_⊘_, _⊗_, dbl, #0, #1, #2, #1e-10}
 use Rattle.arith.specs.Truncation.{truncate}
 use Rattle.arith.proofs.Flags.{not-left}
-use Rattle.arith.proofs.Unsigned.{Unsigned, dbl-unsigned, quotient-unsigned, sum-unsigned, unsigned-not-below}
+use Rattle.arith.proofs.Unsigned.{dbl-unsigned, quotient-unsigned, sum-unsigned, unsigned-not-below}
 use Rattle.arith.proofs.Laws.{truncate-below}
 use Rattle.segv.specs.Families.{bothFamilies}
 use Rattle.segv.specs.Row.{Slices, slices, writtenRow, RowAnswer, answer, segvRow}

@@ -1,3 +1,5 @@
 pub mod Refusals
 pub mod Operations
 pub mod Rows
+pub mod Demand3
+pub mod RowLaws

@@ -4,6 +4,7 @@ use mathlib.Core.Path.{_≡_, refl, ap, _∙_}
 use mathlib.Core.Logic.{inl, inr}
 use mathlib.Core.Bool.{Bool, true, false, cond, _||_}
 use mathlib.Core.List.{List, [], _∷_}
+use native.Mathlib.Nat.{zero-add}
 use native.Mathlib.Omega.{arith}
 use native.Mathlib.Decide.{ℕ-discrete}
 use borrow.Author.Tests.{leb-true, leb-false, ltb-true, ltb-false, eqb-true, eqb-false}
@@ -13,6 +14,7 @@ use lib.Seq.{getD-set-same, getD-set-other}
 use lib.Ieee as Ieee
 use lib.Ieee.{Float, nan}
 use Rattle.sturm.specs.declared.gershgorin_bounds.Bounds.{Bounds}
+use Rattle.arith.proofs.Flags.{not-left}
 use Rattle.sturm.specs.Pivots.{negativePivots}
 use Rattle.arith.specs.Double.{at}
 use Rattle.arith.specs.Choice.{lesser, greater}
@@ -26,9 +28,6 @@ use Rattle.segv.specs.Row.{noBracket, modeAt}
 use Rattle.segv.specs.Sound.{Below, Above, Sound, SoundIn}
 
 -- ---- picks and stores
-
-true-false : true ≡ false → ⊥
-true-false h = let z : _≡_ {A = ℕ} 0 1 = ap (λ (b : Bool). cond b 0 1) h in omega arith
 
 cases : {A : Type 0} (P : A → Type 0) (t : Bool) (a b : A) → (t ≡ true → P a) → (t ≡ false → P b) → P (cond t a b)
 cases P true a b f g = f refl
@@ -50,7 +49,7 @@ stored P d (y ∷ l) zero (suc q) a old new = old
 stored P d (y ∷ l) (suc i) zero a old new = old
 stored P d (y ∷ l) (suc i) (suc q) a old new = stored P d l i q a old (λ e. new (ap suc e))
 
-module _ (ds fs : List Float) (entries : ℕ) (bounds : Bounds) where
+module _ (ds fs : List Float) (entries : ℕ) (bounds : Bounds) (allowance : ℕ) where
   abbrev Lo : ℕ → Float → Type 0
   Lo = Below ds fs entries bounds
 
@@ -134,64 +133,64 @@ module _ (ds fs : List Float) (entries : ℕ) (bounds : Bounds) where
   -- ---- the bisection
 
   SoundFound : ℕ → Search → Type 0
-  SoundFound number (Converged r) = Sound ds fs entries bounds number r
+  SoundFound number (Converged r) = Sound ds fs entries bounds allowance number r
   SoundFound number OutOfSteps = Unit {0}
 
   record Held (places number : ℕ) (b : Outcome) : Type 0 where
     found : SoundFound number (b .found)
     left : Good places (b .ends)
 
-  bisection-sound : (places number : ℕ) → 0 < places → 0 < number → (left : ℕ) (r : Bracket) (s : Ends) → Open number r → Good places s → Held places number (bisection ds fs entries places number left r s)
-  unfolding bisection withMidpoint converged SoundFound
-  bisection-sound places number hp hn zero r s o g = record { found = tt; left = g }
-  bisection-sound places number hp hn (suc left) r s o g =
+  bisection-sound : (places number : ℕ) → 0 < places → 0 < number → (left : ℕ) (r : Bracket) (s : Ends) → r .steps + left ≡ allowance → Open number r → Good places s → Held places number (bisection ds fs entries places number left r s)
+  unfolding bisection withMidpoint converged tighten SoundFound
+  bisection-sound places number hp hn zero r s k o g = record { found = tt; left = g }
+  bisection-sound places number hp hn (suc left) r s k o g =
       cases (Held places number) (converged (withMidpoint r)) _ _
-      (λ e. record { found = record { midpoint = refl; gap = e; below = o .low; above = o .high }; left = g })
-      (λ _. bisection-sound places number hp hn left _ _
+      (λ e. record { found = record { midpoint = refl; gap = e; below = o .low; above = o .high; stepped = omega arith; allowed = omega arith }; left = g })
+      (λ _. bisection-sound places number hp hn left _ _ (omega arith)
       (tighten-open number (withMidpoint r) (record { low = o .low; high = o .high }))
       (tighten-good places number _ _ s hp hn refl g))
 
   -- ---- the family
 
   abbrev Sounds : ℕ → List Bracket → Type 0
-  Sounds n out = (q : ℕ) → q < n → Sound ds fs entries bounds (q + 1) (getD out q noBracket)
+  Sounds n out = (q : ℕ) → q < n → Sound ds fs entries bounds allowance (q + 1) (getD out q noBracket)
 
   abbrev Fine : ℕ → Family → Type 0
   Fine places f = f .stopped ≡ false → Sounds places (f .brackets)
 
   by-found : (P : Family → Type 0) (number : ℕ) (f : Search) (left : Family) (next : Bracket → Family)
-      → SoundFound number f → P left → ((r : Bracket) → Sound ds fs entries bounds number r → P (next r)) → P (onSearch f left next)
+      → SoundFound number f → P left → ((r : Bracket) → Sound ds fs entries bounds allowance number r → P (next r)) → P (onSearch f left next)
   unfolding SoundFound
   by-found P number (Converged r) left next h a b = b r h
   by-found P number OutOfSteps left next h a b = a
 
-  one-more : (p : ℕ) (out : List Bracket) (r : Bracket) → p < length out → Sound ds fs entries bounds (p + 1) r → Sounds p out → Sounds (p + 1) (set out p r)
+  one-more : (p : ℕ) (out : List Bracket) (r : Bracket) → p < length out → Sound ds fs entries bounds allowance (p + 1) r → Sounds p out → Sounds (p + 1) (set out p r)
   one-more p out r h new old q hq = pick (ℕ-discrete q p)
     where
-      pick : Dec (q ≡ p) → Sound ds fs entries bounds (q + 1) (getD (set out p r) q noBracket)
+      pick : Dec (q ≡ p) → Sound ds fs entries bounds allowance (q + 1) (getD (set out p r) q noBracket)
       pick (yes e) = rw (e, getD-set-same out p r noBracket h) new
       pick (no ne) = rw (getD-set-other out p q r noBracket ne) (old q (omega arith))
 
-  from-sound : (places allowance : ℕ) → 0 < places → places ≤ 100 → (n p : ℕ) (s : Ends) (out : List Bracket) → p + n ≡ places → length out ≡ 100
+  from-sound : (places : ℕ) → 0 < places → places ≤ 100 → (n p : ℕ) (s : Ends) (out : List Bracket) → p + n ≡ places → length out ≡ 100
       → Good places s → Sounds p out → Fine places (familyFrom ds fs entries places allowance n p s out)
-  unfolding familyFrom
-  from-sound places allowance hp hl zero p s out hn ho g old = λ _ q hq. old q (omega arith)
-  from-sound places allowance hp hl (suc n) p s out hn ho g old =
+  unfolding familyFrom openedAt
+  from-sound places hp hl zero p s out hn ho g old = λ _ q hq. old q (omega arith)
+  from-sound places hp hl (suc n) p s out hn ho g old =
       let b = bisection ds fs entries places (p + 1) allowance (openedAt s p places) s in
-      let k : Held places (p + 1) b = bisection-sound places (p + 1) hp (omega arith) allowance (openedAt s p places) s (open-good places p s (omega arith) g) g in
+      let k : Held places (p + 1) b = bisection-sound places (p + 1) hp (omega arith) allowance (openedAt s p places) s (zero-add allowance) (open-good places p s (omega arith) g) g in
       by-found (Fine places) (p + 1) (b .found) _ _ (k .found)
-      (λ e. absurd (true-false e))
-      (λ r h. from-sound places allowance hp hl n (p + 1) _ _ (omega arith) (length-set out p r ∙ ho)
+      (λ e. not-left e)
+      (λ r h. from-sound places hp hl n (p + 1) _ _ (omega arith) (length-set out p r ∙ ho)
       (record {
         lows = λ q hq. stored (Lo (q + 1)) nan (b .ends .lowers) p q (r .lower) (k .left .lows q hq) (λ eq. rw eq (h .below));
         highs = k .left .highs;
       })
       (one-more p out r (omega arith) h old))
 
-  all-sound : (places allowance : ℕ) → 0 < places → places ≤ 100 → Fine places (bisectedFamily ds fs entries places allowance bounds)
+  all-sound : (places : ℕ) → 0 < places → places ≤ 100 → Fine places (bisectedFamily ds fs entries places allowance bounds)
   unfolding bisectedFamily
-  all-sound places allowance hp hl =
-      from-sound places allowance hp hl places 0 _ _ (omega arith) (length-replicate 100 blankBracket)
+  all-sound places hp hl =
+      from-sound places hp hl places 0 _ _ (omega arith) (length-replicate 100 blankBracket)
       (record {
         lows = λ q hq. inl (getD-replicate 100 q (bounds .lower) nan (omega arith));
         highs = λ q hq. inl (getD-replicate 100 q (bounds .upper) nan (omega arith));
@@ -200,23 +199,23 @@ module _ (ds fs : List Float) (entries : ℕ) (bounds : Bounds) where
 
 pub family-sound : (m parity : ℕ) (cs : Float) (entries places allowance : ℕ) → 0 < places → places ≤ 100
     → familyOf m parity cs entries places allowance .stopped ≡ false
-    → (q : ℕ) → q < places → SoundIn m parity cs entries (q + 1) (getD (familyOf m parity cs entries places allowance .brackets) q noBracket)
+    → (q : ℕ) → q < places → SoundIn m parity cs entries allowance (q + 1) (getD (familyOf m parity cs entries places allowance .brackets) q noBracket)
 unfolding familyOf
-family-sound m parity cs entries places allowance hp hl h q hq = all-sound _ _ entries _ places allowance hp hl h q hq
+family-sound m parity cs entries places allowance hp hl h q hq = all-sound _ _ entries _ allowance places hp hl h q hq
 
 -- ---- the row
 
-either : (a b : Bool) → (a || b) ≡ false → (a ≡ false) × (b ≡ false)
-either true b h = absurd (true-false h)
-either false b h = (refl, h)
+pub neither : (a b : Bool) → (a || b) ≡ false → (a ≡ false) × (b ≡ false)
+neither true b h = not-left h
+neither false b h = (refl, h)
 
 -- Demand 3: each bracket of an accepted row is sound for its place among the families of its parity.
 pub row-sound : (m n : ℕ) (cs : Float) (entries allowance : ℕ) → n < m + 200 → eitherStopped (bothFamilies m n cs entries allowance) ≡ false
-    → (j : ℕ) → j ≤ n - m → SoundIn m (j % 2) cs entries (j / 2 + 1) (modeAt (bothFamilies m n cs entries allowance) j)
+    → (j : ℕ) → j ≤ n - m → SoundIn m (j % 2) cs entries allowance (j / 2 + 1) (modeAt (bothFamilies m n cs entries allowance) j)
 unfolding bothFamilies eitherStopped modeAt
 row-sound m n cs entries allowance hn h j hj =
-    let both = either _ _ h in
-    cases (SoundIn m (j % 2) cs entries (j / 2 + 1)) (eqb (j % 2) 0) _ _
+    let both = neither _ _ h in
+    cases (SoundIn m (j % 2) cs entries allowance (j / 2 + 1)) (eqb (j % 2) 0) _ _
     (λ e. rw (eqb-true (j % 2) 0 e) (family-sound m 0 cs entries _ allowance (omega arith) (omega arith) (both .0) (j / 2) (omega arith)))
     (λ e.
     let ne : j % 2 ≡ 0 → ⊥ = eqb-false (j % 2) 0 e in

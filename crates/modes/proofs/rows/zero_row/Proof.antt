@@ -3,7 +3,7 @@ use mathlib.Core.Path.{_≡_, refl, ap}
 use native.Mathlib.Omega.{arith}
 use native.Mathlib.Numerals.{add-one}
 use lib.ListN.{length, length-set}
-use Rattle.segv.specs.Row.{Slices, slices, written, writtenRow}
+use Rattle.segv.specs.Row.{slices, written, writtenRow}
 use Rattle.modes.specs.Rows.{zeroAt}
 use borrow.Author.Needs.{needs}
 use Rattle.modes.proofs.rows.zero_row.Statement.{statement}

@@ -1,5 +1,4 @@
 -- `modes::checking::Mode::entries` meets its contract: the whole part of H is a whole number below 291. Assumes nothing.
-use mathlib.Core.Path.{refl}
 use native.Mathlib.Omega.{arith}
 use borrow.Author.Needs.{needs}
 use Rattle.modes.proofs.Laws as laws

@@ -1,0 +1,39 @@
+-- The statements of `specs/RowLaws.antt`. Assumes nothing.
+use Prim.Native.Nat.{ℕ, _+_, _-_, _≤_}
+use native.Mathlib.Omega.{arith}
+use mathlib.Core.Path.{_≡_, refl, ap}
+use mathlib.Core.Bool.{Bool, true, false}
+use lib.Ieee.{Float, lt}
+use Rattle.arith.specs.Double.{_⊗_, dbl, #1e-10}
+use Rattle.arith.proofs.Laws.{dbl-product}
+use Rattle.segv.specs.Families.{eitherStopped}
+use Rattle.segv.specs.Row.{Slices}
+use Rattle.segv.proofs.Allowance.{families-more}
+use Rattle.modes.specs.declared.checking.Mode.{Mode}
+use Rattle.modes.specs.declared.checking.Kind.{Kind}
+use Rattle.modes.specs.Refusals.{signOf, entriesOf}
+use Rattle.modes.specs.Rows.{rowOf, rowIn, zeroAt}
+use Rattle.modes.specs.RowLaws.{dlmfAtZero, ZeroParameter, MoreAllowance}
+use Rattle.modes.proofs.Filled.{bracketAt, filled, long-all, handed-at}
+
+zero-is : (m j : ℕ) → m ≤ 199 → j ≤ 199 → let v = dbl (dlmfAtZero (m + j)) in zeroAt m j ≡ record { value = v; lower = v; upper = v; steps = 0 }
+unfolding zeroAt
+zero-is m j h k = ap (λ (v : Float). record { value = v; lower = v; upper = v; steps = 0 }) (dbl-product (m + j) (m + j + 1) (omega arith) (omega arith))
+
+pub zero-parameter : ZeroParameter
+zero-parameter kind x allowance l h z j hj =
+    let g = filled kind x allowance l h in
+    let r = g .range in
+    rw (g .is, handed-at x (bracketAt kind x allowance) l (long-all x l (g .long)) j hj, z) (zero-is (x .m) j (r .order) (omega arith))
+
+row-in-more : (kind : Kind) (x : Mode) (a b : ℕ) (l : Slices) → a ≤ b → (lt (x .c) #1e-10 ≡ false → eitherStopped (Rattle.modes.proofs.Filled.both kind x a) ≡ false) → rowIn kind x b l ≡ rowIn kind x a l
+unfolding rowIn
+row-in-more kind x a b l h k = go (lt (x .c) #1e-10) refl
+  where
+    go : (z : Bool) → lt (x .c) #1e-10 ≡ z → rowIn kind x b l ≡ rowIn kind x a l
+    go true hz = rw hz
+    go false hz = rw (hz, families-more (x .m) (x .n) (x .c ⊗ x .c ⊗ signOf kind) (entriesOf x) a b h (k hz))
+
+pub more-allowance : MoreAllowance
+unfolding rowOf
+more-allowance kind x a b l h k = let g = filled kind x a l k in rw (row-in-more kind x a b l h (g .given .kept))

@@ -1,0 +1,40 @@
+-- The users' third demand for rows, as statements about the definitions of the public rows. `proofs/Demand3.antt` proves them. The demand's half on angular pairs comes with these.
+use Prim.Native.Nat.{ℕ, _+_, _-_, _/_, _%_, _≤_}
+use mathlib.Core.Path.{_≡_}
+use mathlib.Core.Bool.{false}
+use mathlib.Core.List.{List}
+use lib.Ieee.{Float, lt}
+use lib.ListN.{getD}
+use Rattle.arith.specs.Double.{_⊖_, _⊗_, at, #1e-10}
+use Rattle.segv.specs.declared.bisection.Bracket.{Bracket}
+use Rattle.segv.specs.Row.{Slices}
+use Rattle.segv.specs.Sound.{SoundIn}
+use Rattle.modes.specs.declared.checking.Kind.{Kind}
+use Rattle.modes.specs.declared.checking.Mode.{Mode}
+use Rattle.modes.specs.Refusals.{signOf, entriesOf}
+use Rattle.modes.specs.Rows.{rowOf, tooShort, dlmfOf}
+
+-- what a row hands out for the mode at offset j: the value, and the lower, the upper and the step number beside it
+abbrev pub handed : Slices → ℕ → Bracket
+handed l j = record { value = at (l .values) j; lower = at (l .lowers) j; upper = at (l .uppers) j; steps = getD (l .steps) j 0 }
+
+-- Whatever m, n, allowance and c of at least 1e-10 an accepted row of operation 1 or 2 has, each characteristic value it hands out is the rounded midpoint of the lower and the upper
+-- handed out beside it. The rounded gap of these two over the value, rounded, is below 1e-14 in size. At the lower, document 01 counts fewer than k negative pivots, or it is the lower
+-- Gershgorin bound; at the upper, k or more, or it is the upper Gershgorin bound; k is the value's place among modes of its parity, j/2 + 1 at offset j. (`Sound` in crate `segv` has these
+-- facts one by one, and two on the step number: it is at least 1 and at most the allowance.)
+abbrev pub Demand3Rows : Type 0
+Demand3Rows =
+    (kind : Kind) (x : Mode) (allowance : ℕ) (l : Slices)
+    → rowOf kind x allowance l .number ≡ 0
+    → lt (x .c) #1e-10 ≡ false
+    → (j : ℕ) → j ≤ x .n - x .m
+    → SoundIn (x .m) (j % 2) (x .c ⊗ x .c ⊗ signOf kind) (entriesOf x) allowance (j / 2 + 1) (handed (rowOf kind x allowance l .after) j)
+
+-- DLMF rows start from the same values: where one is accepted, so is the row with the same kind, m, n, c and allowance, and each value is the row's less c × c.
+abbrev pub Demand3Dlmf : Type 0
+Demand3Dlmf =
+    (kind : Kind) (x : Mode) (allowance : ℕ) (xs : List Float) (l : Slices)
+    → dlmfOf kind x allowance xs .number ≡ 0
+    → tooShort x l ≡ false
+    → (rowOf kind x allowance l .number ≡ 0)
+    × ((j : ℕ) → j ≤ x .n - x .m → at (dlmfOf kind x allowance xs .after) j ≡ at (rowOf kind x allowance l .after .values) j ⊖ x .c ⊗ x .c)

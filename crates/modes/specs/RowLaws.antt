@@ -1,0 +1,32 @@
+-- More that holds of rows, as statements about the definition of the public row. `proofs/RowLaws.antt` proves them.
+use Prim.Native.Nat.{ℕ, _+_, _-_, _*_, _≤_}
+use mathlib.Core.Path.{_≡_}
+use mathlib.Core.Bool.{true}
+use lib.Ieee.{lt}
+use Rattle.arith.specs.Double.{dbl, #1e-10}
+use Rattle.segv.specs.Row.{Slices}
+use Rattle.modes.specs.declared.checking.Kind.{Kind}
+use Rattle.modes.specs.declared.checking.Mode.{Mode}
+use Rattle.modes.specs.Rows.{rowOf}
+use Rattle.modes.specs.Demand3.{handed}
+
+-- DLMF 30.3: at parameter zero the eigenvalue of degree n is n(n + 1), whatever the order
+abbrev pub dlmfAtZero : ℕ → ℕ
+dlmfAtZero n = n * (n + 1)
+
+-- where c is below 1e-10, an accepted row hands out DLMF's values as doubles, with lower and upper equal to them and no step
+abbrev pub ZeroParameter : Type 0
+ZeroParameter =
+    (kind : Kind) (x : Mode) (allowance : ℕ) (l : Slices)
+    → rowOf kind x allowance l .number ≡ 0
+    → lt (x .c) #1e-10 ≡ true
+    → (j : ℕ) → j ≤ x .n - x .m
+    → let v = dbl (dlmfAtZero (x .m + j)) in handed (rowOf kind x allowance l .after) j ≡ record { value = v; lower = v; upper = v; steps = 0 }
+
+-- more allowance never changes an accepted row
+abbrev pub MoreAllowance : Type 0
+MoreAllowance =
+    (kind : Kind) (x : Mode) (a b : ℕ) (l : Slices)
+    → a ≤ b
+    → rowOf kind x a l .number ≡ 0
+    → rowOf kind x b l ≡ rowOf kind x a l
