@@ -3,3 +3,4 @@ pub mod Operations
 pub mod Rows
 pub mod Demand3
 pub mod RowLaws
+pub mod Edges
