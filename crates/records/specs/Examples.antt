@@ -2,13 +2,14 @@
 use mathlib.Core.Path.{_≡_, refl}
 use mathlib.Core.List.{List, [], _∷_, _++_, map}
 use Prim.Native.Nat.{ℕ}
-use lib.Ieee.{nan, ofBits, toBits}
+use Prim.Native.String.{String}
+use lib.Ieee.{Float, nan, ofBits, toBits}
 use lib.ListN.{take, replicate}
 use Rattle.arith.specs.Double.{bits, #0, #1, #2}
 use Rattle.records.specs.declared.record.Next.{Next}
 use Rattle.records.specs.declared.record.Next.the-variants.{Whole, Refused, End}
 use Rattle.records.specs.Record.{numberAt, nextAt}
-use Rattle.records.specs.Text.{digit, decimalIn, hexadecimal}
+use Rattle.records.specs.Text.{ascii, digit, decimalIn, hexadecimal}
 use Rattle.records.specs.Lines.{vLine, dLine, rLine}
 
 -- ---- records
@@ -47,35 +48,27 @@ pub inputs-right : map (λ (row : List ℕ × ℕ × Next). nextAt (row .0) (row
 unfolding nextAt numberAt ofBits
 inputs-right = refl
 
--- ---- lines, by their ASCII codes: 30 to 39 are the digits, 61 to 66 are a to f, 20 is a space, 0a ends the line
+-- ---- lines
 
--- sixteen zeros; 4 and 4018 with zeros up to sixteen digits; each after a space
-abbrev pub zeros : List ℕ
-zeros = 0x20 ∷ replicate 16 0x30
+-- 6, the third value of document 01's example
+abbrev pub six : Float
+six = bits 0x4018_0000_0000_0000
 
-abbrev pub twos : List ℕ
-twos = 0x20 ∷ 0x34 ∷ replicate 15 0x30
-
-abbrev pub sixes : List ℕ
-sixes = 0x20 ∷ 0x34 ∷ 0x30 ∷ 0x31 ∷ 0x38 ∷ replicate 12 0x30
-
--- A line and its text.
-abbrev pub lines : List (List ℕ × List ℕ)
+-- A line and its text. The first three are document 01's `V` lines.
+abbrev pub lines : List (List ℕ × String)
 lines =
-    -- document 01's `V` lines: V 0 0 0, V 0 1 0, V 0 2 0, each with its value three times
-    (vLine 0 0 0 #0 #0 #0, 0x56 ∷ 0x20 ∷ 0x30 ∷ 0x20 ∷ 0x30 ∷ 0x20 ∷ 0x30 ∷ zeros ++ zeros ++ zeros ++ 0x0a ∷ []) ∷
-    (vLine 0 1 0 #2 #2 #2, 0x56 ∷ 0x20 ∷ 0x30 ∷ 0x20 ∷ 0x31 ∷ 0x20 ∷ 0x30 ∷ twos ++ twos ++ twos ++ 0x0a ∷ []) ∷
-    (vLine 0 2 0 (bits 0x4018_0000_0000_0000) (bits 0x4018_0000_0000_0000) (bits 0x4018_0000_0000_0000), 0x56 ∷ 0x20 ∷ 0x30 ∷ 0x20 ∷ 0x32 ∷ 0x20 ∷ 0x30 ∷ sixes ++ sixes ++ sixes ++ 0x0a ∷ []) ∷
-    -- V 10 199 65535 with 0, 2 and 6
-    (vLine 10 199 65535 #0 #2 (bits 0x4018_0000_0000_0000), 0x56 ∷ 0x20 ∷ 0x31 ∷ 0x30 ∷ 0x20 ∷ 0x31 ∷ 0x39 ∷ 0x39 ∷ 0x20 ∷ 0x36 ∷ 0x35 ∷ 0x35 ∷ 0x33 ∷ 0x35 ∷ zeros ++ twos ++ sixes ++ 0x0a ∷ []) ∷
-    -- D 7 3 3ff6a09e667f3bcd
-    (dLine 7 3 (bits 0x3ff6_a09e_667f_3bcd), 0x44 ∷ 0x20 ∷ 0x37 ∷ 0x20 ∷ 0x33 ∷ 0x20 ∷ 0x33 ∷ 0x66 ∷ 0x66 ∷ 0x36 ∷ 0x61 ∷ 0x30 ∷ 0x39 ∷ 0x65 ∷ 0x36 ∷ 0x36 ∷ 0x37 ∷ 0x66 ∷ 0x33 ∷ 0x62 ∷ 0x63 ∷ 0x64 ∷ 0x0a ∷ []) ∷
-    -- D 7 4 7ff8000000000000, a NaN
-    (dLine 7 4 nan, 0x44 ∷ 0x20 ∷ 0x37 ∷ 0x20 ∷ 0x34 ∷ 0x20 ∷ 0x37 ∷ 0x66 ∷ 0x66 ∷ 0x38 ∷ replicate 12 0x30 ++ 0x0a ∷ []) ∷
-    -- R 18446744073709551615 10
-    (rLine 18446744073709551615 10, 0x52 ∷ 0x20 ∷ 0x31 ∷ 0x38 ∷ 0x34 ∷ 0x34 ∷ 0x36 ∷ 0x37 ∷ 0x34 ∷ 0x34 ∷ 0x30 ∷ 0x37 ∷ 0x33 ∷ 0x37 ∷ 0x30 ∷ 0x39 ∷ 0x35 ∷ 0x35 ∷ 0x31 ∷ 0x36 ∷ 0x31 ∷ 0x35 ∷ 0x20 ∷ 0x31 ∷ 0x30 ∷ 0x0a ∷ []) ∷
+    (vLine 0 0 0 #0 #0 #0, "V 0 0 0 0000000000000000 0000000000000000 0000000000000000\n") ∷
+    (vLine 0 1 0 #2 #2 #2, "V 0 1 0 4000000000000000 4000000000000000 4000000000000000\n") ∷
+    (vLine 0 2 0 six six six, "V 0 2 0 4018000000000000 4018000000000000 4018000000000000\n") ∷
+    -- each word another
+    (vLine 10 199 65535 #2 #1 six, "V 10 199 65535 4000000000000000 3ff0000000000000 4018000000000000\n") ∷
+    -- the root of 2, and a NaN
+    (dLine 7 3 (bits 0x3ff6_a09e_667f_3bcd), "D 7 3 3ff6a09e667f3bcd\n") ∷
+    (dLine 7 4 nan, "D 7 4 7ff8000000000000\n") ∷
+    -- the largest number of a record
+    (rLine 18446744073709551615 10, "R 18446744073709551615 10\n") ∷
     []
 
-pub lines-right : map (λ (row : List ℕ × List ℕ). row .0) lines ≡ map (λ (row : List ℕ × List ℕ). row .1) lines
+pub lines-right : map (λ (row : List ℕ × String). row .0) lines ≡ map (λ (row : List ℕ × String). ascii (row .1)) lines
 unfolding decimalIn hexadecimal digit ofBits toBits
 lines-right = refl

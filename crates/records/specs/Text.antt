@@ -2,7 +2,9 @@
 use mathlib.Core.Path.{_≡_}
 use mathlib.Core.Bool.{true, false, cond}
 use mathlib.Core.List.{List, [], _∷_, _++_}
-use Prim.Native.Nat.{ℕ, zero, suc, _+_, _/_, _%_, _≤_}
+use Prim.Native.Char.{code}
+use Prim.Native.String.{String, [] as ε, _∷_ as _then_}
+use Prim.Native.Nat.{ℕ, zero, suc, _+_, _-_, _/_, _%_, _≤_}
 use lib.Dec.{ltb}
 use lib.ListN.{length, take, drop}
 
@@ -12,9 +14,14 @@ pub record Put (before after : List ℕ) (from to : ℕ) (text : List ℕ) : Typ
   pub fits : to ≤ length before
   pub shows : after ≡ take from before ++ text ++ drop to before
 
--- a digit: `0` to `9`, then `a` to `f`
+-- the bytes of a text
+abbrev pub ascii : String → List ℕ
+ascii ε = []
+ascii (c then text) = code c ∷ ascii text
+
+-- the byte of a digit: `0` to `9`, then `a` to `f`
 unfoldable pub digit : ℕ → ℕ
-digit d = cond (ltb d 10) (48 + d) (87 + d)
+digit d = cond (ltb d 10) (code "0" + d) (code "a" + (d - 10))
 
 -- a number of at most `most` decimal digits, with no zero in front
 unfoldable pub decimalIn : ℕ → ℕ → List ℕ

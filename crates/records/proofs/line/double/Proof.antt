@@ -1,5 +1,4 @@
 -- `records::line::double` meets its contract: one text after another. Assumes nothing.
-use mathlib.Core.Path.{_≡_}
 use native.Mathlib.Omega.{arith}
 use borrow.Author.Needs.{needs}
 use Rattle.records.proofs.Laws.{put-then}

@@ -55,7 +55,14 @@ from-bits-requires-3 : tie.Need-from-bits-requires-3
 from-bits-requires-3 c κs = search needs
 
 returns : tie.Need-returns
-returns c = cc
+returns c =
+    let x = c .before in
+    let cv = x .before .before in
+    let d = cv .before .before in
+    let allowance = d .before in
+    let n = allowance .before in
+    let m = n .before in
+    rw (m .number-2 .ensures, n .number-22 .ensures, allowance .number-23 .ensures, cv .before .from-bits .ensures, d .number-8 .ensures, x .before .from-bits2 .ensures, cv .number-82 .ensures, c .from-bits3 .ensures, x .number-83 .ensures)
 
 pub decode-spec : {M : Type 1} → statement M
 decode-spec =

@@ -14,10 +14,10 @@ shared-slice-read-result : tie.Need-shared-slice-read-result
 shared-slice-read-result c = search needs
 
 returns : tie.Need-returns
-returns c = rw (eq-eqb _ _ (c .before .if1 .taken))
+returns c = rw (eq-eqb _ 0x53 (c .before .if1 .taken))
 
 returns-2 : tie.Need-returns-2
-returns-2 c = rw (ne-eqb _ _ (c .if1 .left))
+returns-2 c = rw (ne-eqb _ 0x53 (c .if1 .left))
 
 pub marked-spec : {M : Type 1} → statement M
 marked-spec =

@@ -16,7 +16,7 @@ sub-if2 c = search needs
 
 returns-2 : tie.Need-returns-2
 unfolding nextAt
-returns-2 c = rw (lt-leb _ _ (c .before .if1 .left), lt-ltb _ _ (c .if2 .taken))
+returns-2 c = rw (lt-leb _ _ (c .before .if1 .left), lt-ltb _ 33 (c .if2 .taken))
 
 marked-requires : tie.Need-marked-requires
 marked-requires c κs = search needs
@@ -27,11 +27,11 @@ decode-requires c κs = search needs
 returns-3 : tie.Need-returns-3
 unfolding nextAt
 returns-3 c =
-    rw (lt-leb _ _ (c .before .before .before .before .if1 .left), le-ltb _ _ (c .before .before .before .if2 .left), ← c .before .before .marked .ensures, c .before .if3 .taken) (ap Whole (c .decode .ensures))
+    rw (lt-leb _ _ (c .before .before .before .before .if1 .left), le-ltb _ 33 (c .before .before .before .if2 .left), ← c .before .before .marked .ensures, c .before .if3 .taken) (ap Whole (c .decode .ensures))
 
 returns-4 : tie.Need-returns-4
 unfolding nextAt
-returns-4 c = rw (lt-leb _ _ (c .before .before .before .if1 .left), le-ltb _ _ (c .before .before .if2 .left), ← c .before .marked .ensures, c .if3 .left)
+returns-4 c = rw (lt-leb _ _ (c .before .before .before .if1 .left), le-ltb _ 33 (c .before .before .if2 .left), ← c .before .marked .ensures, c .if3 .left)
 
 pub next-record-spec : {M : Type 1} → statement M
 next-record-spec =
