@@ -15,10 +15,9 @@ use Rattle.modes.specs.declared.rows.RowAnswer as Given
 use Rattle.modes.specs.declared.rows.RowAnswer.the-variants.{Filled, Refused}
 use Rattle.modes.specs.Refusals.{signOf, entriesOf, rowRefusal}
 
--- document 01's number for an answer, and 0 where nothing was refused
-unfoldable pub numberOf : Given.RowAnswer → ℕ
-numberOf Filled = 0
-numberOf (Refused k) = k
+-- the answer with document 01's number: 0 is no refusal
+unfoldable pub given : ℕ → Given.RowAnswer
+given k = cond (eqb k 0) Filled (Refused k)
 
 -- ---- the row
 
@@ -42,6 +41,14 @@ unfoldable pub rowOf : Kind → Mode → ℕ → Slices → RowAnswer
 rowOf kind x allowance l =
     let r = cond (tooShort x l) (answer 9 l) (rowIn kind x allowance l) in
     cond (eqb (rowRefusal x) 0) r (answer (rowRefusal x) l)
+
+-- what a caller gets: the answer, and the slices afterwards
+pub record RowOutcome : Type 0 where
+  pub answer : Given.RowAnswer
+  pub after : Slices
+
+abbrev pub rowOutcome : RowAnswer → RowOutcome
+rowOutcome a = record { answer = given (a .number); after = a .after }
 
 -- ---- DLMF's form
 
@@ -70,3 +77,10 @@ unfoldable pub dlmfOf : Kind → Mode → ℕ → List Float → DlmfAnswer
 dlmfOf kind x allowance xs =
     let r = cond (leb (length xs) (x .n - x .m)) (single 9 xs) (dlmfIn x (rowIn kind x allowance blankSlices) xs) in
     cond (eqb (rowRefusal x) 0) r (single (rowRefusal x) xs)
+
+pub record DlmfOutcome : Type 0 where
+  pub answer : Given.RowAnswer
+  pub after : List Float
+
+abbrev pub dlmfOutcome : DlmfAnswer → DlmfOutcome
+dlmfOutcome a = record { answer = given (a .number); after = a .after }

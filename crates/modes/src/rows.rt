@@ -5,7 +5,7 @@ ghost use lib.ListN.{length, replicate};
 ghost use Rattle.arith.specs.Double.{#0};
 ghost use Rattle.segv.specs.Row.{slices, writtenRow, answer};
 ghost use Rattle.modes.specs.Refusals.{rowRefusal};
-ghost use Rattle.modes.specs.Rows.{zeroAt, rowIn, rowOf, lessened, single, dlmfOf, numberOf};
+ghost use Rattle.modes.specs.Rows.{zeroAt, rowIn, rowOf, lessened, single, dlmfOf, given, rowOutcome, dlmfOutcome};
 use super::checking::Kind;
 use super::checking::Mode;
 
@@ -17,7 +17,7 @@ pub enum RowAnswer {
 }
 
 fn row_answer(number: u8) -> RowAnswer
-    ensures { λ r. ⌜ numberOf r ≡ number ⌝ }
+    ensures { λ r. ⌜ r ≡ given number ⌝ }
 {
     if number == 0 {
         return RowAnswer::Filled;
@@ -121,8 +121,8 @@ pub fn row(
     lowers: &mut [f64],
     uppers: &mut [f64],
 ) -> RowAnswer
-    ensures { λ r. ⌜ answer (numberOf r) (slices (now (values .exit)) (now (steps .exit)) (now (lowers .exit)) (now (uppers .exit)))
-        ≡ rowOf kind mode allowance (slices (now (values .entry)) (now (steps .entry)) (now (lowers .entry)) (now (uppers .entry))) ⌝ }
+    ensures { λ r. ⌜ record { answer = r; after = slices (now (values .exit)) (now (steps .exit)) (now (lowers .exit)) (now (uppers .exit)) }
+        ≡ rowOutcome (rowOf kind mode allowance (slices (now (values .entry)) (now (steps .entry)) (now (lowers .entry)) (now (uppers .entry)))) ⌝ }
 {
     row_answer(row_number(kind, mode, allowance, values, steps, lowers, uppers))
 }
@@ -186,7 +186,7 @@ fn dlmf_number(kind: Kind, mode: Mode, allowance: u16, out: &mut [f64]) -> u8
 
 // The row in DLMF's form: each value less c * c. Refusals 4, 5, 6, 9 and 10.
 pub fn dlmf_row(kind: Kind, mode: Mode, allowance: u16, values: &mut [f64]) -> RowAnswer
-    ensures { λ r. ⌜ single (numberOf r) (now (values .exit)) ≡ dlmfOf kind mode allowance (now (values .entry)) ⌝ }
+    ensures { λ r. ⌜ record { answer = r; after = now (values .exit) } ≡ dlmfOutcome (dlmfOf kind mode allowance (now (values .entry))) ⌝ }
 {
     row_answer(dlmf_number(kind, mode, allowance, values))
 }
