@@ -68,6 +68,9 @@ taken kind x allowance xs h = go (eqb (rowRefusal x) 0) refl (leb (length xs) (x
     go true he true hs t ht = let w : _≡_ {A = ℕ} 9 0 = rw (he, hs) at h in absurd (omega arith)
     go false he s hs t ht = let w : rowRefusal x ≡ 0 = rw he at h in absurd (eqb-false (rowRefusal x) 0 he w)
 
+pub dlmf-accepted : (kind : Kind) (x : Mode) (allowance : ℕ) (xs : List Float) → dlmfOf kind x allowance xs .number ≡ 0 → Accepted x
+dlmf-accepted kind x allowance xs h = accepted x (taken kind x allowance xs h .none)
+
 blank-long : (x : Mode) → Accepted x → Long x blankSlices
 unfolding blankSlices
 blank-long x r =

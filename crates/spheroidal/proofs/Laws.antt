@@ -1,0 +1,103 @@
+-- Laws of the texts that a record is answered with. Assumes nothing.
+use Prim.Native.Nat.{ℕ, suc, _+_, _-_, _≤_}
+use mathlib.Core.Path.{_≡_, refl, sym, ap, subst, _∙_}
+use mathlib.Core.Bool.{Bool, true, false}
+use mathlib.Core.List.{List, [], _++_, append-nil}
+use native.Mathlib.Omega.{arith}
+use borrow.Author.Tests.{eqb-true}
+use lib.Dec.{eqb}
+use lib.Ieee.{Float}
+use lib.ListN.{length, take, drop, replicate, take-append-drop}
+use Rattle.arith.specs.Double.{#0}
+use Rattle.records.specs.Text.{Put}
+use Rattle.records.specs.Lines.{rLine}
+use Rattle.segv.specs.Row.{Slices, slices}
+use Rattle.modes.specs.declared.checking.Kind.{Kind}
+use Rattle.modes.specs.declared.checking.Mode.{Mode}
+use Rattle.modes.specs.declared.rows.RowAnswer.{RowAnswer}
+use Rattle.modes.specs.declared.rows.RowAnswer.the-variants.{Filled, Refused}
+use Rattle.modes.specs.Rows.{given, rowOf, blankSlices, rowOutcome, dlmfOf, dlmfOutcome}
+use Rattle.modes.specs.Refusals.{rowRefusal}
+use Rattle.modes.proofs.Laws.{Accepted, accepted}
+use Rattle.modes.proofs.Filled.{filled}
+use Rattle.modes.proofs.Demand3.{dlmf-accepted}
+use Rattle.spheroidal.specs.Response.{vLines, dLines, rowText, dlmfText}
+
+-- no text at all
+pub put-nothing : (l : List ℕ) (at : ℕ) → at ≤ length l → Put l l at at []
+put-nothing l at h = record { ends = omega arith; fits = h; shows = sym (rw (append-nil (take at l)) (take-append-drop at l)) }
+
+pub put-same : {a b : List ℕ} {f t : ℕ} {x y : List ℕ} → x ≡ y → Put a b f t x → Put a b f t y
+put-same {a} {b} {f} {t} e p = subst (Put a b f t) e p
+
+-- ---- the number behind an answer
+code : RowAnswer → ℕ
+code Filled = 0
+code (Refused k) = suc k
+
+given-filled : (k : ℕ) → Filled ≡ given k → eqb k 0 ≡ true
+unfolding given code
+given-filled k e = go (eqb k 0) refl
+  where
+    go : (t : Bool) → eqb k 0 ≡ t → eqb k 0 ≡ true
+    go true h = h
+    go false h = let w : _≡_ {A = ℕ} 0 (suc k) = ap code (rw h at e) in absurd (omega arith)
+
+given-refused : (k j : ℕ) → Refused j ≡ given k → (eqb k 0 ≡ false) × (k ≡ j)
+unfolding given code
+given-refused k j e = go (eqb k 0) refl
+  where
+    go : (t : Bool) → eqb k 0 ≡ t → (eqb k 0 ≡ false) × (k ≡ j)
+    go true h = let w : _≡_ {A = ℕ} (suc j) 0 = ap code (rw h at e) in absurd (omega arith)
+    go false h = let w : suc j ≡ suc k = ap code (rw h at e) in (h, omega arith)
+
+-- ---- rows
+module _ (index : ℕ) (kind : Kind) (x : Mode) (allowance : ℕ) (v : List Float) (s : List ℕ) (w u : List Float)
+    (hv : v ≡ replicate 200 #0) (hs : s ≡ replicate 200 0) (hw : w ≡ replicate 200 #0) (hu : u ≡ replicate 200 #0)
+    (r : RowAnswer) (after : Slices) (e : record { answer = r; after = after } ≡ rowOutcome (rowOf kind x allowance (slices v s w u))) where
+  blank-is : slices v s w u ≡ blankSlices
+  unfolding blankSlices
+  blank-is = rw (hv, hs, hw, hu)
+
+  answer-is : r ≡ given (rowOf kind x allowance blankSlices .number)
+  answer-is = ap (λ o. o .answer) e ∙ ap (λ (l : Slices). given (rowOf kind x allowance l .number)) blank-is
+
+  after-is : after ≡ rowOf kind x allowance blankSlices .after
+  after-is = ap (λ o. o .after) e ∙ ap (λ (l : Slices). rowOf kind x allowance l .after) blank-is
+
+  row-number : r ≡ Filled → eqb (rowOf kind x allowance blankSlices .number) 0 ≡ true
+  row-number f = given-filled _ (sym f ∙ answer-is)
+
+  pub row-accepted : r ≡ Filled → Accepted x
+  row-accepted f = filled kind x allowance blankSlices (eqb-true _ 0 (row-number f)) .range
+
+  pub row-filled : r ≡ Filled → vLines index (x .m) after (x .n - x .m + 1) ≡ rowText index kind x allowance
+  unfolding rowText
+  row-filled f = rw (row-number f, after-is)
+
+  pub row-refused : (k : ℕ) → r ≡ Refused k → rLine index k ≡ rowText index kind x allowance
+  unfolding rowText
+  row-refused k f = let g = given-refused _ k (sym f ∙ answer-is) in rw (g .0, g .1)
+
+-- ---- DLMF rows
+module _ (index : ℕ) (kind : Kind) (x : Mode) (allowance : ℕ) (v : List Float) (hv : v ≡ replicate 200 #0)
+    (r : RowAnswer) (after : List Float) (e : record { answer = r; after = after } ≡ dlmfOutcome (dlmfOf kind x allowance v)) where
+  dlmf-answer-is : r ≡ given (dlmfOf kind x allowance (replicate 200 #0) .number)
+  dlmf-answer-is = ap (λ o. o .answer) e ∙ ap (λ (l : List Float). given (dlmfOf kind x allowance l .number)) hv
+
+  dlmf-after-is : after ≡ dlmfOf kind x allowance (replicate 200 #0) .after
+  dlmf-after-is = ap (λ o. o .after) e ∙ ap (λ (l : List Float). dlmfOf kind x allowance l .after) hv
+
+  dlmf-number : r ≡ Filled → eqb (dlmfOf kind x allowance (replicate 200 #0) .number) 0 ≡ true
+  dlmf-number f = given-filled _ (sym f ∙ dlmf-answer-is)
+
+  pub dlmf-row-accepted : r ≡ Filled → Accepted x
+  dlmf-row-accepted f = dlmf-accepted kind x allowance (replicate 200 #0) (eqb-true _ 0 (dlmf-number f))
+
+  pub dlmf-filled : r ≡ Filled → dLines index (x .m) after (x .n - x .m + 1) ≡ dlmfText index kind x allowance
+  unfolding dlmfText
+  dlmf-filled f = rw (dlmf-number f, dlmf-after-is)
+
+  pub dlmf-refused : (k : ℕ) → r ≡ Refused k → rLine index k ≡ dlmfText index kind x allowance
+  unfolding dlmfText
+  dlmf-refused k f = let g = given-refused _ k (sym f ∙ dlmf-answer-is) in rw (g .0, g .1)

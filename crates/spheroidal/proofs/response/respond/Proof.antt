@@ -1,0 +1,99 @@
+-- `spheroidal::response::respond` meets its contract: the match is the definition's. Assumes nothing.
+use mathlib.Core.Path.{_≡_, sym, _∙_}
+use native.Mathlib.Omega.{arith}
+use Rattle.spheroidal.specs.Response.{responseTo, textOf}
+use Rattle.spheroidal.proofs.Laws.{put-nothing}
+use borrow.Author.Needs.{needs}
+use Rattle.spheroidal.proofs.response.respond.Statement.{statement}
+use Rattle.spheroidal.proofs.response.respond.Tie as tie
+
+operation-of-requires : tie.Need-operation-of-requires
+operation-of-requires c κs = search needs
+
+enum-known-operation : tie.Need-enum-known-operation
+enum-known-operation c = search needs
+
+respond-row-requires : tie.Need-respond-row-requires
+respond-row-requires c κs = search needs
+
+enum-known-operation-2 : tie.Need-enum-known-operation-2
+enum-known-operation-2 c = search needs
+
+respond-dlmf-row-requires : tie.Need-respond-dlmf-row-requires
+respond-dlmf-row-requires c κs = search needs
+
+enum-known-operation-3 : tie.Need-enum-known-operation-3
+enum-known-operation-3 c = search needs
+
+r-line-requires : tie.Need-r-line-requires
+r-line-requires c κs = search needs
+
+enum-told : tie.Need-enum-told
+enum-told c = search needs
+
+enum-told-2 : tie.Need-enum-told-2
+enum-told-2 c = search needs
+
+same-length : tie.Need-same-length
+same-length c = search needs
+
+returns : tie.Need-returns
+unfolding responseTo textOf
+returns c =
+    let e = sym (c .before .before .before .before .before .before .before .operation-of .ensures) ∙ c .before .before .before .before .before .operation .given .1 in
+    let p = c .before .before .respond-row .ensures in
+    (rw e (p .0), omega (arith, p .1))
+
+same-length-2 : tie.Need-same-length-2
+same-length-2 c = search needs
+
+returns-2 : tie.Need-returns-2
+unfolding responseTo textOf
+returns-2 c =
+    let e = sym (c .before .before .before .before .before .before .before .operation-of .ensures) ∙ c .before .before .before .before .before .operation2 .given .1 in
+    let p = c .before .before .respond-dlmf-row .ensures in
+    (rw e (p .0), omega (arith, p .1))
+
+same-length-3 : tie.Need-same-length-3
+same-length-3 c = search needs
+
+returns-3 : tie.Need-returns-3
+unfolding responseTo textOf
+returns-3 c =
+    let e = sym (c .before .before .before .before .before .before .before .operation-of .ensures) ∙ c .before .before .before .before .before .operation3 .given .1 in
+    let p = c .before .before .r-line .ensures in
+    (rw e (p .0), omega (arith, p .1))
+
+returns-4 : tie.Need-returns-4
+unfolding responseTo textOf
+returns-4 c =
+    let e = sym (c .before .before .operation-of .ensures) ∙ c .enum-told .given .1 in
+    (rw e (put-nothing _ _ (omega arith)), omega arith)
+
+returns-5 : tie.Need-returns-5
+unfolding responseTo textOf
+returns-5 c =
+    let e = sym (c .before .before .operation-of .ensures) ∙ c .enum-told2 .given .1 in
+    (rw e (put-nothing _ _ (omega arith)), omega arith)
+
+pub respond-spec : {M : Type 1} → statement M
+respond-spec =
+    tie.close
+    (tie.spec
+    operation-of-requires
+    enum-known-operation
+    respond-row-requires
+    enum-known-operation-2
+    respond-dlmf-row-requires
+    enum-known-operation-3
+    r-line-requires
+    enum-told
+    enum-told-2
+    same-length
+    returns
+    same-length-2
+    returns-2
+    same-length-3
+    returns-3
+    returns-4
+    returns-5)

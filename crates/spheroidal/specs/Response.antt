@@ -1,0 +1,50 @@
+-- The lines of a record, in document 01's words: a row prints one line for each mode from m to n, and a refusal its number. Definitions only.
+use Prim.Native.Nat.{ℕ, zero, suc, _+_, _-_}
+use mathlib.Core.Bool.{cond}
+use mathlib.Core.List.{List, [], _++_}
+use lib.Dec.{eqb}
+use lib.Ieee.{Float}
+use lib.ListN.{getD, replicate}
+use Rattle.arith.specs.Double.{at, #0}
+use Rattle.records.specs.declared.record.Record.{Record}
+use Rattle.records.specs.Lines.{vLine, dLine, rLine}
+use Rattle.segv.specs.Row.{Slices}
+use Rattle.modes.specs.declared.checking.Kind.{Kind}
+use Rattle.modes.specs.declared.checking.Mode.{Mode}
+use Rattle.modes.specs.declared.operations.Operation.{Operation}
+use Rattle.modes.specs.declared.operations.Operation.the-variants.{Row, Angular, Radial, DlmfRow, Refused}
+use Rattle.modes.specs.Operations.{operationOf}
+use Rattle.modes.specs.Rows.{rowOf, dlmfOf, blankSlices}
+
+-- the lines of a row's first `count` modes
+unfoldable pub vLines : ℕ → ℕ → Slices → ℕ → List ℕ
+vLines index m row zero = []
+vLines index m row (suc j) = vLines index m row j ++ vLine index (m + j) (getD (row .steps) j 0) (at (row .values) j) (at (row .lowers) j) (at (row .uppers) j)
+
+unfoldable pub dLines : ℕ → ℕ → List Float → ℕ → List ℕ
+dLines index m row zero = []
+dLines index m row (suc j) = dLines index m row j ++ dLine index (m + j) (at row j)
+
+-- the lines of a row, or its refusal's
+unfoldable pub rowText : ℕ → Kind → Mode → ℕ → List ℕ
+rowText index kind x allowance =
+    let a = rowOf kind x allowance blankSlices in
+    cond (eqb (a .number) 0) (vLines index (x .m) (a .after) (x .n - x .m + 1)) (rLine index (a .number))
+
+unfoldable pub dlmfText : ℕ → Kind → Mode → ℕ → List ℕ
+dlmfText index kind x allowance =
+    let a = dlmfOf kind x allowance (replicate 200 #0) in
+    cond (eqb (a .number) 0) (dLines index (x .m) (a .after) (x .n - x .m + 1)) (rLine index (a .number))
+
+-- by the operation
+unfoldable pub textOf : Operation → ℕ → Record → List ℕ
+textOf (Row kind) index r = rowText index kind (record { m = r .m; n = r .n; c = r .c }) (r .allowance)
+textOf (DlmfRow kind) index r = dlmfText index kind (record { m = r .m; n = r .n; c = r .c }) (r .allowance)
+textOf (Refused k) index r = rLine index k
+-- not built yet
+textOf (Angular kind) index r = []
+textOf Radial index r = []
+
+-- the lines of the record with this number
+unfoldable pub responseTo : ℕ → Record → List ℕ
+responseTo index r = textOf (operationOf (r .operation)) index r

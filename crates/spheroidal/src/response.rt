@@ -1,0 +1,173 @@
+// The lines of one record.
+ghost use mathlib.Core.Path.{_≡_};
+ghost use mathlib.Core.Bool.{true};
+ghost use Prim.Native.Nat.{_+_, _*_, _<_, _≤_};
+ghost use lib.ListN.{length, replicate};
+ghost use Rattle.arith.specs.Double.{#0};
+ghost use Rattle.records.specs.Text.{Put};
+ghost use Rattle.segv.specs.Row.{slices};
+ghost use Rattle.spheroidal.specs.Response.{vLines, dLines, rowText, dlmfText, responseTo};
+use modes::Kind;
+use modes::Mode;
+use modes::Operation;
+use modes::RowAnswer;
+use records::Record;
+
+// Two hundred zeros. Made by a call, an array is one value in the caller's proof.
+fn zero_doubles() -> [f64; 200]
+    ensures { λ r. ⌜ r ≡ replicate 200 #0 ⌝ }
+{
+    [0.0; 200]
+}
+
+fn zero_steps() -> [u16; 200]
+    ensures { λ r. ⌜ r ≡ replicate 200 0 ⌝ }
+{
+    [0; 200]
+}
+
+// The `V` lines of a row's first `count` modes.
+fn put_v_lines(
+    values: &[f64; 200],
+    steps: &[u16; 200],
+    lowers: &[f64; 200],
+    uppers: &[f64; 200],
+    index: u64,
+    m: u16,
+    count: usize,
+    out: &mut [u8],
+    at: usize,
+) -> usize
+    requires { ⌜ (count ≤ 200) × (m < 1000) × (at + 86 * count ≤ length (now out)) ⌝ }
+    ensures { λ r. ⌜ Put (now (out .entry)) (now (out .exit)) at r (vLines index m (slices (now (values .entry)) (now (steps .entry)) (now (lowers .entry)) (now (uppers .entry))) count) ⌝ }
+    ensures { λ r. ⌜ r ≤ at + 86 * count ⌝ }
+{
+    let mut used = at;
+    let mut j: usize = 0;
+    while j < count {
+        used = records::v_line(
+            out,
+            used,
+            index,
+            m + (j as u16),
+            steps[j],
+            values[j],
+            lowers[j],
+            uppers[j],
+        );
+        j = j + 1;
+    }
+    used
+}
+
+// The `D` lines of a DLMF row's first `count` modes.
+fn put_d_lines(
+    values: &[f64; 200],
+    index: u64,
+    m: u16,
+    count: usize,
+    out: &mut [u8],
+    at: usize,
+) -> usize
+    requires { ⌜ (count ≤ 200) × (m < 1000) × (at + 46 * count ≤ length (now out)) ⌝ }
+    ensures { λ r. ⌜ Put (now (out .entry)) (now (out .exit)) at r (dLines index m (now (values .entry)) count) ⌝ }
+    ensures { λ r. ⌜ r ≤ at + 46 * count ⌝ }
+{
+    let mut used = at;
+    let mut j: usize = 0;
+    while j < count {
+        used = records::d_line(out, used, index, m + (j as u16), values[j]);
+        j = j + 1;
+    }
+    used
+}
+
+fn respond_row(
+    kind: Kind,
+    mode: Mode,
+    allowance: u16,
+    index: u64,
+    out: &mut [u8],
+    at: usize,
+) -> usize
+    requires { ⌜ at + 17200 ≤ length (now out) ⌝ }
+    ensures { λ r. ⌜ Put (now (out .entry)) (now (out .exit)) at r (rowText index kind mode allowance) ⌝ }
+    ensures { λ r. ⌜ r ≤ at + 17200 ⌝ }
+{
+    let mut values = zero_doubles();
+    let mut steps = zero_steps();
+    let mut lowers = zero_doubles();
+    let mut uppers = zero_doubles();
+    let answer = modes::row(
+        kind,
+        mode,
+        allowance,
+        &mut values,
+        &mut steps,
+        &mut lowers,
+        &mut uppers,
+    );
+    match answer {
+        RowAnswer::Filled => put_v_lines(
+            &values,
+            &steps,
+            &lowers,
+            &uppers,
+            index,
+            mode.m,
+            (mode.n - mode.m) as usize + 1,
+            out,
+            at,
+        ),
+        RowAnswer::Refused(refusal) => records::r_line(out, at, index, refusal),
+    }
+}
+
+fn respond_dlmf_row(
+    kind: Kind,
+    mode: Mode,
+    allowance: u16,
+    index: u64,
+    out: &mut [u8],
+    at: usize,
+) -> usize
+    requires { ⌜ at + 17200 ≤ length (now out) ⌝ }
+    ensures { λ r. ⌜ Put (now (out .entry)) (now (out .exit)) at r (dlmfText index kind mode allowance) ⌝ }
+    ensures { λ r. ⌜ r ≤ at + 17200 ⌝ }
+{
+    let mut values = zero_doubles();
+    let answer = modes::dlmf_row(kind, mode, allowance, &mut values);
+    match answer {
+        RowAnswer::Filled => put_d_lines(
+            &values,
+            index,
+            mode.m,
+            (mode.n - mode.m) as usize + 1,
+            out,
+            at,
+        ),
+        RowAnswer::Refused(refusal) => records::r_line(out, at, index, refusal),
+    }
+}
+
+// Puts the lines of a record at a place of the buffer, and answers the place after them. Nothing is
+// put for operations 3 to 5, which are not built yet.
+pub fn respond(request: Record, index: u64, out: &mut [u8], at: usize) -> usize
+    requires { ⌜ at + 17200 ≤ length (now out) ⌝ }
+    ensures { λ r. ⌜ Put (now (out .entry)) (now (out .exit)) at r (responseTo index request) ⌝ }
+    ensures { λ r. ⌜ r ≤ at + 17200 ⌝ }
+{
+    let mode = Mode {
+        m: request.m,
+        n: request.n,
+        c: request.c,
+    };
+    let operation = modes::operation_of(request.operation);
+    match operation {
+        Operation::Row(kind) => respond_row(kind, mode, request.allowance, index, out, at),
+        Operation::DlmfRow(kind) => respond_dlmf_row(kind, mode, request.allowance, index, out, at),
+        Operation::Refused(refusal) => records::r_line(out, at, index, refusal),
+        Operation::Angular(_) => at,
+        Operation::Radial => at,
+    }
+}
