@@ -105,7 +105,7 @@ V 0 2 0 4018000000000000 4018000000000000 4018000000000000
 A 1 0 0 3ff0000000000000 0000000000000000
 ";
 
-fn example_stream() -> Vec<u8> {
+pub fn example_records() -> [Record; 2] {
     let angular = Record {
         operation: 3,
         m: 0,
@@ -120,5 +120,12 @@ fn example_stream() -> Vec<u8> {
         n: 2,
         ..angular
     };
-    [row.to_bytes(), angular.to_bytes()].concat()
+    [row, angular]
+}
+
+fn example_stream() -> Vec<u8> {
+    example_records()
+        .iter()
+        .flat_map(Record::to_bytes)
+        .collect()
 }

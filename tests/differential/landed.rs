@@ -6,15 +6,15 @@ pub const PROGRAM: &str = "target/bin/spheroidal";
 /// One line for each class of input: its name, and whether our program answers it yet. What has not
 /// landed is not sent to our program and counts neither as passed nor as failed.
 pub const CLASSES: [(&str, bool); 9] = [
-    ("operation 1, prolate row", false),
-    ("operation 2, oblate row", false),
+    ("operation 1, prolate row", true),
+    ("operation 2, oblate row", true),
     ("operation 3, prolate angular", false),
     ("operation 4, oblate angular", false),
     ("operation 5, oblate radial", false),
-    ("operation 6, prolate DLMF row", false),
-    ("operation 7, oblate DLMF row", false),
-    ("other operations, refused 3", false),
-    ("damaged streams, refused 1 or 2", false),
+    ("operation 6, prolate DLMF row", true),
+    ("operation 7, oblate DLMF row", true),
+    ("other operations, refused 3", true),
+    ("damaged streams, refused 1 or 2", true),
 ];
 
 const OTHER_OPERATIONS: usize = 7;

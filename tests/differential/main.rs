@@ -13,7 +13,7 @@ mod tally;
 use std::io::Write;
 use std::process::ExitCode;
 
-use oracle::answer::{Build, record_lines};
+use oracle::answer::{Build, record_lines, stream_lines};
 use oracle::reading::refusal;
 use oracle::record::Record;
 
@@ -25,8 +25,10 @@ use landed::{CLASSES, DAMAGED_STREAMS, any_landed, class_of, has_landed, landed_
 use program::Program;
 use tally::Tally;
 
-const USAGE: &str = "usage: compare [--records] [N] [SEED]";
+const USAGE: &str = "usage: compare [--records | --replay] [N] [SEED]";
 const KNOWN_RECORDS: &str = "tests/oracle/traps.txt";
+/// Where the gate finds what it replays.
+const REPLAY: &str = "crates/spheroidal";
 const DEFAULT_RECORDS: usize = 20_000;
 const DEFAULT_SEED: u64 = 20_261_114;
 
@@ -39,8 +41,16 @@ const NOT_RUN: u8 = 2;
 struct Arguments {
     records: usize,
     seed: u64,
+    task: Task,
+}
+
+#[derive(Clone, Copy, PartialEq, Eq)]
+enum Task {
+    Compare,
     /// Write the records and compare nothing.
-    only_records: bool,
+    Records,
+    /// Write the stream and the lines that the gate replays.
+    Replay,
 }
 
 fn main() -> ExitCode {
@@ -56,8 +66,12 @@ fn main() -> ExitCode {
 
 fn arguments() -> Result<Arguments, String> {
     let mut words: Vec<String> = std::env::args().skip(1).collect();
-    let only_records = words.first().is_some_and(|word| word == "--records");
-    if only_records {
+    let task = match words.first().map(String::as_str) {
+        Some("--records") => Task::Records,
+        Some("--replay") => Task::Replay,
+        _ => Task::Compare,
+    };
+    if task != Task::Compare {
         words.remove(0);
     }
     if words.len() > 2 {
@@ -70,16 +84,19 @@ fn arguments() -> Result<Arguments, String> {
     Ok(Arguments {
         records: number(0, DEFAULT_RECORDS as u64)? as usize,
         seed: number(1, DEFAULT_SEED)?,
-        only_records,
+        task,
     })
 }
 
 fn run(arguments: Arguments) -> Result<ExitCode, String> {
     let mut generator = Generator::new(arguments.seed);
-    if arguments.only_records {
+    if arguments.task == Task::Records {
         return write_records(&mut generator, arguments.records);
     }
     let file = std::fs::read_to_string(KNOWN_RECORDS).map_err(|error| error.to_string())?;
+    if arguments.task == Task::Replay {
+        return write_replay(&mut generator, arguments.records, &file);
+    }
     let program = if any_landed() {
         Some(Program::find()?)
     } else {
@@ -108,6 +125,31 @@ fn write_records(generator: &mut Generator, count: usize) -> Result<ExitCode, St
     std::io::stdout()
         .write_all(&bytes)
         .map_err(|error| error.to_string())?;
+    Ok(ExitCode::SUCCESS)
+}
+
+/// Document 01's example, the known records and N fresh ones, as far as their operations have landed,
+/// and at the end a record that is cut short.
+fn write_replay(generator: &mut Generator, count: usize, file: &str) -> Result<ExitCode, String> {
+    let known = known::parse(file)?
+        .into_iter()
+        .filter_map(|known| match known.input {
+            Input::Record(record) => Some(record),
+            Input::Stream(_) => None,
+        });
+    let mut records = checks::example_records().to_vec();
+    records.extend(known);
+    records.extend(generator.records(count));
+    records.retain(|record| has_landed(class_of(record.operation)));
+    let mut stream: Vec<u8> = records.iter().flat_map(Record::to_bytes).collect();
+    stream.extend(&records[0].to_bytes()[..20]);
+    let lines = stream_lines(Build::PowerRule, &stream);
+    let write = |name: &str, bytes: &[u8]| {
+        std::fs::write(format!("{REPLAY}/{name}"), bytes).map_err(|error| error.to_string())
+    };
+    write("stdin", &stream)?;
+    write("stdout", lines.as_bytes())?;
+    println!("{} records, {} lines", records.len(), lines.lines().count());
     Ok(ExitCode::SUCCESS)
 }
 

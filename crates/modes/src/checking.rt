@@ -16,7 +16,7 @@ pub struct Mode {
 }
 
 // Document 01's kd.
-pub fn sign(kind: Kind) -> f64
+pub(crate) fn sign(kind: Kind) -> f64
     ensures { λ r. ⌜ r ≡ Refusals.signOf kind ⌝ }
 {
     match kind {
@@ -90,7 +90,7 @@ impl Mode {
     }
 
     // How many entries the matrix of a row has: document 01's K.
-    pub fn entries(self) -> u32
+    pub(crate) fn entries(self) -> u32
         requires { ⌜ Refusals.rowRefusal self ≡ 0 ⌝ }
         ensures { λ r. ⌜ r ≡ Refusals.entriesOf self ⌝ }
     {

@@ -19,7 +19,7 @@ fn digit(d: u64) -> u8
 }
 
 // One byte.
-pub fn byte(out: &mut [u8], at: usize, b: u8) -> usize
+pub(crate) fn byte(out: &mut [u8], at: usize, b: u8) -> usize
     requires { ⌜ at < length (now out) ⌝ }
     ensures { λ r. ⌜ Put (now (out .entry)) (now (out .exit)) at r (b ∷ []) ⌝ }
 {
@@ -28,7 +28,7 @@ pub fn byte(out: &mut [u8], at: usize, b: u8) -> usize
 }
 
 // A number in decimal. It calls itself for the digits before the last, at most 19 calls deep.
-pub fn decimal(out: &mut [u8], at: usize, n: u64) -> usize
+pub(crate) fn decimal(out: &mut [u8], at: usize, n: u64) -> usize
     requires { ⌜ at + length (decimal n) ≤ length (now out) ⌝ }
     ensures { λ r. ⌜ Put (now (out .entry)) (now (out .exit)) at r (decimal n) ⌝ }
 {
@@ -41,7 +41,7 @@ pub fn decimal(out: &mut [u8], at: usize, n: u64) -> usize
 }
 
 // A number as 16 hexadecimal digits, the last one put first.
-pub fn hexadecimal(out: &mut [u8], at: usize, n: u64) -> usize
+pub(crate) fn hexadecimal(out: &mut [u8], at: usize, n: u64) -> usize
     requires { ⌜ at + 16 ≤ length (now out) ⌝ }
     ensures { λ r. ⌜ Put (now (out .entry)) (now (out .exit)) at r (hexadecimal 16 n) ⌝ }
     ensures { λ r. ⌜ r ≡ at + 16 ⌝ }

@@ -19,7 +19,7 @@ pub enum Search {
 
 impl Bracket {
     // The midpoint becomes the value, and the step is counted.
-    pub fn with_midpoint(self) -> Bracket
+    pub(crate) fn with_midpoint(self) -> Bracket
         requires { ⌜ self .steps < 65535 ⌝ }
         ensures { λ r. ⌜ r ≡ Bisection.withMidpoint self ⌝ }
     {
@@ -32,7 +32,7 @@ impl Bracket {
     }
 
     // The stopping test.
-    pub fn converged(self) -> bool
+    pub(crate) fn converged(self) -> bool
         ensures { λ r. ⌜ r ≡ Bisection.converged self ⌝ }
     {
         arith::abs((self.upper - self.lower) / self.value) < 1e-14
@@ -40,7 +40,7 @@ impl Bracket {
 
     // The value becomes the lower end where the count at it is below the place's number, and else
     // the upper.
-    pub fn tightened(self, count: usize, place: usize) -> Bracket
+    pub(crate) fn tightened(self, count: usize, place: usize) -> Bracket
         ensures { λ r. ⌜ r ≡ Bisection.tighten count place self ⌝ }
     {
         if count < place {
@@ -84,7 +84,7 @@ fn tighten_others(
 }
 
 // The allowance falls by one at each midpoint.
-pub fn bisect(
+pub(crate) fn bisect(
     d: &[f64; 300],
     f: &[f64; 300],
     entries: usize,

@@ -115,7 +115,7 @@ fn bisect_family(
 }
 
 // The family of one parity, 0 even and 1 odd.
-pub fn family_of(
+pub(crate) fn family_of(
     m: u32,
     parity: u32,
     cs: f64,

@@ -2,12 +2,12 @@
 use Prim.Native.Nat.{ℕ, suc, _+_, _-_, _≤_}
 use mathlib.Core.Path.{_≡_, refl, sym, ap, subst, _∙_}
 use mathlib.Core.Bool.{Bool, true, false}
-use mathlib.Core.List.{List, [], _++_, append-nil}
+use mathlib.Core.List.{List, [], append-nil}
 use native.Mathlib.Omega.{arith}
 use borrow.Author.Tests.{eqb-true}
 use lib.Dec.{eqb}
 use lib.Ieee.{Float}
-use lib.ListN.{length, take, drop, replicate, take-append-drop}
+use lib.ListN.{length, take, replicate, take-append-drop}
 use Rattle.arith.specs.Double.{#0}
 use Rattle.records.specs.Text.{Put}
 use Rattle.records.specs.Lines.{rLine}
@@ -17,8 +17,7 @@ use Rattle.modes.specs.declared.checking.Mode.{Mode}
 use Rattle.modes.specs.declared.rows.RowAnswer.{RowAnswer}
 use Rattle.modes.specs.declared.rows.RowAnswer.the-variants.{Filled, Refused}
 use Rattle.modes.specs.Rows.{given, rowOf, blankSlices, rowOutcome, dlmfOf, dlmfOutcome}
-use Rattle.modes.specs.Refusals.{rowRefusal}
-use Rattle.modes.proofs.Laws.{Accepted, accepted}
+use Rattle.modes.proofs.Laws.{Accepted}
 use Rattle.modes.proofs.Filled.{filled}
 use Rattle.modes.proofs.Demand3.{dlmf-accepted}
 use Rattle.spheroidal.specs.Response.{vLines, dLines, rowText, dlmfText}

@@ -1,6 +1,5 @@
 // The lines of one record.
 ghost use mathlib.Core.Path.{_≡_};
-ghost use mathlib.Core.Bool.{true};
 ghost use Prim.Native.Nat.{_+_, _*_, _<_, _≤_};
 ghost use lib.ListN.{length, replicate};
 ghost use Rattle.arith.specs.Double.{#0};
@@ -152,7 +151,7 @@ fn respond_dlmf_row(
 
 // Puts the lines of a record at a place of the buffer, and answers the place after them. Nothing is
 // put for operations 3 to 5, which are not built yet.
-pub fn respond(request: Record, index: u64, out: &mut [u8], at: usize) -> usize
+pub(crate) fn respond(request: Record, index: u64, out: &mut [u8], at: usize) -> usize
     requires { ⌜ at + 17200 ≤ length (now out) ⌝ }
     ensures { λ r. ⌜ Put (now (out .entry)) (now (out .exit)) at r (responseTo index request) ⌝ }
     ensures { λ r. ⌜ r ≤ at + 17200 ⌝ }

@@ -1,7 +1,6 @@
 -- `spheroidal::main` lends each function what its contract asks, and ends. Assumes nothing.
 use Prim.Native.Nat.{_-_, _*_, _≤_}
 use mathlib.Core.Path.{_≡_}
-use native.Mathlib.Omega.{arith}
 use lib.ListN.{length}
 use borrow.Author.Needs.{needs}
 use Rattle.spheroidal.proofs.main.Statement.{statement}

@@ -1,5 +1,5 @@
 -- `spheroidal::stop` meets its contract: its line fits. Assumes nothing.
-use mathlib.Core.Path.{refl, sym}
+use mathlib.Core.Path.{sym}
 use native.Mathlib.Omega.{arith}
 use lib.Seq.{length-take-le}
 use Rattle.records.proofs.Laws.{put-length}

@@ -1,5 +1,5 @@
 -- `spheroidal::response::respond` meets its contract: the match is the definition's. Assumes nothing.
-use mathlib.Core.Path.{_≡_, sym, _∙_}
+use mathlib.Core.Path.{sym, _∙_}
 use native.Mathlib.Omega.{arith}
 use Rattle.spheroidal.specs.Response.{responseTo, textOf}
 use Rattle.spheroidal.proofs.Laws.{put-nothing}
