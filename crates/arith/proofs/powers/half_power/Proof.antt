@@ -1,3 +1,4 @@
+-- `arith::powers::half_power` meets its contract. Assumes nothing.
 use borrow.Author.Needs.{needs}
 use Rattle.arith.proofs.powers.half_power.Statement.{statement}
 use Rattle.arith.proofs.powers.half_power.Tie as tie

@@ -1,3 +1,4 @@
+-- `modes::checking::no_parameter` meets its contract. Assumes nothing.
 use Rattle.modes.proofs.Laws as laws
 use Rattle.modes.proofs.checking.no_parameter.Statement.{statement}
 use Rattle.modes.proofs.checking.no_parameter.Tie as tie

@@ -1,3 +1,4 @@
+-- `modes::checking::sign` meets its contract. Assumes nothing.
 use Rattle.modes.specs.Refusals.{signOf}
 use borrow.Author.Needs.{needs}
 use Rattle.modes.proofs.checking.sign.Statement.{statement}

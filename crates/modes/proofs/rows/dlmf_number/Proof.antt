@@ -1,3 +1,4 @@
+-- `modes::rows::dlmf_number` meets its contract. Each return is one case of the definition. Assumes nothing.
 use mathlib.Core.Path.{sym, ap, _∙_}
 use Prim.Native.Nat.{ℕ}
 use native.Mathlib.Omega.{arith}

@@ -1,3 +1,4 @@
+-- `modes::rows::lessen` meets its contract. The invariant: the first j places are written. Assumes nothing.
 use Prim.Native.Nat.{_≤_, _-_}
 use mathlib.Core.Path.{_≡_, refl}
 use native.Mathlib.Omega.{arith}

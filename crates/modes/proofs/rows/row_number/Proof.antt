@@ -1,3 +1,4 @@
+-- `modes::rows::row_number` meets its contract. Each return is one refusal of the definition. Assumes nothing.
 use mathlib.Core.Path.{sym, _∙_}
 use native.Mathlib.Omega.{arith}
 use borrow.Author.Tests.{le-leb, lt-leb}

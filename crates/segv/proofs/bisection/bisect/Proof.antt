@@ -1,3 +1,4 @@
+-- `segv::bisection::bisect` meets its contract. The invariant: what is left to do gives the whole answer, and steps and allowance add up. Assumes nothing.
 use Rattle.segv.proofs.Laws as laws
 use Prim.Native.Nat.{_-_, _+_}
 use mathlib.Core.Path.{_≡_, refl, sym, _∙_}

@@ -1,3 +1,4 @@
+-- `segv::bisection::tighten_others` meets its contract. Assumes nothing.
 use borrow.Author.Tests.{le-leb, lt-leb}
 use Rattle.segv.specs.Bisection.{tightenOthers}
 use borrow.Author.Needs.{needs}

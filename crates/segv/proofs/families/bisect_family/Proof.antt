@@ -1,3 +1,4 @@
+-- `segv::families::bisect_family` meets its contract. The invariant: the places that are left give the whole family. Assumes nothing.
 use Prim.Native.Nat.{_-_, _+_}
 use mathlib.Core.Path.{_≡_, refl, sym, _∙_}
 use native.Mathlib.Omega.{arith}

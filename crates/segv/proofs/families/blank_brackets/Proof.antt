@@ -1,3 +1,4 @@
+-- `segv::families::blank_brackets` meets its contract. Assumes nothing.
 use mathlib.Core.Path.{refl}
 use Rattle.segv.specs.Families.{blankBracket}
 use Rattle.segv.proofs.families.blank_brackets.Statement.{statement}

@@ -1,3 +1,4 @@
+-- `segv::families::family_of` meets its contract. Assumes nothing.
 use Rattle.segv.proofs.Laws as laws
 use borrow.Author.Needs.{needs}
 use Rattle.segv.proofs.families.family_of.Statement.{statement}

@@ -1,3 +1,4 @@
+-- `segv::families::first_below` meets its contract. The invariant: the uppers that are left give the answer. Assumes nothing.
 use Prim.Native.Nat.{suc, _-_, _+_}
 use mathlib.Core.Path.{_≡_, refl}
 use native.Mathlib.Omega.{arith}

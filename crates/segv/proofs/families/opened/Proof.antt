@@ -1,3 +1,4 @@
+-- `segv::families::opened` meets its contract. Assumes nothing.
 use Rattle.segv.specs.Families.{openedAt, raised}
 use borrow.Author.Tests.{ne-eqb}
 use borrow.Author.Needs.{needs}

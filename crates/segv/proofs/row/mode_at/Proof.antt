@@ -1,3 +1,4 @@
+-- `segv::row::mode_at` meets its contract. Assumes nothing.
 use borrow.Author.Tests.{eq-eqb, ne-eqb}
 use Rattle.segv.specs.Row.{modeAt}
 use borrow.Author.Needs.{needs}

@@ -1,3 +1,4 @@
+-- `segv::row::segv` meets its contract. Assumes nothing.
 use Rattle.segv.proofs.Laws as laws
 use borrow.Author.Needs.{needs}
 use Rattle.segv.proofs.row.segv.Statement.{statement}

@@ -1,3 +1,4 @@
+-- `segv::row::write_row` meets its contract. The invariant: the first j places of each slice are written. Assumes nothing.
 use Prim.Native.Nat.{_≤_, _-_}
 use mathlib.Core.Path.{_≡_, refl, ap}
 use native.Mathlib.Omega.{arith}

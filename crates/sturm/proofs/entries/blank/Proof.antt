@@ -1,3 +1,4 @@
+-- `sturm::entries::blank` meets its contract. Assumes nothing.
 use mathlib.Core.Path.{refl}
 use Rattle.sturm.specs.Entries.{blankEntries}
 use Rattle.sturm.proofs.entries.blank.Statement.{statement}

@@ -1,3 +1,4 @@
+-- `sturm::entries::entry_e` meets its contract. Assumes nothing.
 use borrow.Author.Tests.{lt-ltb, le-ltb}
 use Rattle.sturm.specs.Entries.{entryE}
 use borrow.Author.Needs.{needs}

@@ -1,3 +1,4 @@
+-- `sturm::entries::fill` meets its contract. The invariant: the first i entries are filled. Assumes nothing.
 use Prim.Native.Nat.{_≤_, _-_}
 use mathlib.Core.Path.{_≡_}
 use native.Mathlib.Omega.{arith}

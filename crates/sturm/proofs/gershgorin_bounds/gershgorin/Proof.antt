@@ -1,3 +1,4 @@
+-- `sturm::gershgorin_bounds::gershgorin` meets its contract. The invariant: the bounds are widened by the first i entries. Assumes nothing.
 use Prim.Native.Nat.{_≤_, _-_}
 use mathlib.Core.Path.{_≡_, refl}
 use native.Mathlib.Omega.{arith}

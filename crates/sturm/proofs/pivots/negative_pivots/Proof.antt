@@ -1,3 +1,4 @@
+-- `sturm::pivots::negative_pivots` meets its contract. The invariant: pivot and count are the definition's after i entries. Assumes nothing.
 use mathlib.Core.Path.{ap, _∙_}
 use Prim.Native.Nat.{_≤_, _-_}
 use mathlib.Core.Path.{_≡_, refl}

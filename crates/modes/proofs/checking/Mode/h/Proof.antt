@@ -1,3 +1,4 @@
+-- `modes::checking::Mode::h` meets its contract. Assumes nothing.
 use mathlib.Core.Path.{refl}
 use Rattle.modes.specs.Refusals.{hOf}
 use borrow.Author.Needs.{needs}

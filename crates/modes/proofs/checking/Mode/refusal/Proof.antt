@@ -1,3 +1,4 @@
+-- `modes::checking::Mode::refusal` meets its contract. Each return is one refusal of the definition. Assumes nothing.
 use Rattle.modes.proofs.Laws as laws
 use borrow.Author.Tests.{lt-ltb, le-ltb}
 use Rattle.modes.specs.Refusals.{refusalOf, outOfRange}

@@ -1,3 +1,4 @@
+-- `segv::bisection::Bracket::converged` meets its contract. Assumes nothing.
 use Rattle.segv.specs.Bisection.{converged}
 use borrow.Author.Needs.{needs}
 use Rattle.segv.proofs.bisection.Bracket.converged.Statement.{statement}

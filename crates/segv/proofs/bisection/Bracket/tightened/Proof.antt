@@ -1,3 +1,4 @@
+-- `segv::bisection::Bracket::tightened` meets its contract. Assumes nothing.
 use borrow.Author.Tests.{lt-ltb, le-ltb}
 use Rattle.segv.specs.Bisection.{tighten}
 use Rattle.segv.proofs.bisection.Bracket.tightened.Statement.{statement}

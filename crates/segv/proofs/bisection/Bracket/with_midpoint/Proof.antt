@@ -1,3 +1,4 @@
+-- `segv::bisection::Bracket::with_midpoint` meets its contract. Assumes nothing.
 use mathlib.Core.Path.{refl}
 use Rattle.segv.specs.Bisection.{withMidpoint}
 use borrow.Author.Needs.{needs}

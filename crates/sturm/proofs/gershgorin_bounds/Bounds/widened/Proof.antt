@@ -1,3 +1,4 @@
+-- `sturm::gershgorin_bounds::Bounds::widened` meets its contract. Assumes nothing.
 use Rattle.sturm.specs.Bounds.{widen}
 use borrow.Author.Needs.{needs}
 use Rattle.sturm.proofs.gershgorin_bounds.Bounds.widened.Statement.{statement}
