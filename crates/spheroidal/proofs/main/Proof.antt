@@ -28,14 +28,17 @@ slice-aggregate-read-full c = search needs
 read-full-requires : tie.Need-read-full-requires Inv-loop μ-loop
 read-full-requires c κs = search needs
 
-slice-aggregate-answer-all : tie.Need-slice-aggregate-answer-all Inv-loop μ-loop
-slice-aggregate-answer-all c = search needs
+array-share-prefix-input : tie.Need-array-share-prefix-input Inv-loop μ-loop
+array-share-prefix-input c = search needs
 
-slice-aggregate-answer-all-2 : tie.Need-slice-aggregate-answer-all-2 Inv-loop μ-loop
-slice-aggregate-answer-all-2 c = search needs
+slice-aggregate-answer-reading : tie.Need-slice-aggregate-answer-reading Inv-loop μ-loop
+slice-aggregate-answer-reading c = search needs
 
-answer-all-requires : tie.Need-answer-all-requires Inv-loop μ-loop
-answer-all-requires c κs = search needs
+slice-aggregate-answer-reading-2 : tie.Need-slice-aggregate-answer-reading-2 Inv-loop μ-loop
+slice-aggregate-answer-reading-2 c = search needs
+
+answer-reading-requires : tie.Need-answer-reading-requires Inv-loop μ-loop
+answer-reading-requires c κs = search needs
 
 returns : tie.Need-returns Inv-loop μ-loop
 returns c = search needs
@@ -66,9 +69,10 @@ main-spec =
     loop-holds
     slice-aggregate-read-full
     read-full-requires
-    slice-aggregate-answer-all
-    slice-aggregate-answer-all-2
-    answer-all-requires
+    array-share-prefix-input
+    slice-aggregate-answer-reading
+    slice-aggregate-answer-reading-2
+    answer-reading-requires
     returns
     returns-2
     add-readings

@@ -1,11 +1,11 @@
--- `spheroidal::response::respond` meets its contract: the match is the definition's. Assumes nothing.
+-- `stream::response::respond` meets its contract: the match is the definition's. Assumes nothing.
 use mathlib.Core.Path.{sym, _∙_}
 use native.Mathlib.Omega.{arith}
-use Rattle.spheroidal.specs.Response.{responseTo, textOf}
-use Rattle.spheroidal.proofs.Laws.{put-nothing}
+use Rattle.stream.specs.Response.{responseTo, textOf}
+use Rattle.stream.proofs.Laws.{put-nothing}
 use borrow.Author.Needs.{needs}
-use Rattle.spheroidal.proofs.response.respond.Statement.{statement}
-use Rattle.spheroidal.proofs.response.respond.Tie as tie
+use Rattle.stream.proofs.response.respond.Statement.{statement}
+use Rattle.stream.proofs.response.respond.Tie as tie
 
 operation-of-requires : tie.Need-operation-of-requires
 operation-of-requires c κs = search needs

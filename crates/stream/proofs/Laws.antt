@@ -10,6 +10,8 @@ use lib.Ieee.{Float}
 use lib.ListN.{length, take, replicate, take-append-drop}
 use Rattle.arith.specs.Double.{#0}
 use Rattle.records.specs.Text.{Put}
+-- for the programs above
+pub use Rattle.records.proofs.Laws.{put-length}
 use Rattle.records.specs.Lines.{rLine}
 use Rattle.segv.specs.Row.{Slices, slices}
 use Rattle.modes.specs.declared.checking.Kind.{Kind}
@@ -20,7 +22,7 @@ use Rattle.modes.specs.Rows.{given, rowOf, blankSlices, rowOutcome, dlmfOf, dlm
 use Rattle.modes.proofs.Laws.{Accepted}
 use Rattle.modes.proofs.Filled.{filled}
 use Rattle.modes.proofs.Demand3.{dlmf-accepted}
-use Rattle.spheroidal.specs.Response.{vLines, dLines, rowText, dlmfText}
+use Rattle.stream.specs.Response.{vLines, dLines, rowText, dlmfText}
 
 -- no text at all
 pub put-nothing : (l : List ℕ) (at : ℕ) → at ≤ length l → Put l l at at []

@@ -1,4 +1,4 @@
--- `spheroidal::response::put_d_lines` meets its contract. The invariant: the lines of the modes so far are put. Assumes nothing.
+-- `stream::response::put_d_lines` meets its contract. The invariant: the lines of the modes so far are put. Assumes nothing.
 use Prim.Native.Nat.{_+_, _-_, _*_, _≤_}
 use mathlib.Core.Path.{_≡_, refl}
 use native.Mathlib.Omega.{arith}
@@ -7,10 +7,10 @@ use lib.ListN.{length}
 use borrow.Author.Needs.{needs}
 use Rattle.records.specs.Text.{Put}
 use Rattle.records.proofs.Laws.{put-then, put-length}
-use Rattle.spheroidal.specs.Response.{dLines}
-use Rattle.spheroidal.proofs.Laws.{put-nothing}
-use Rattle.spheroidal.proofs.response.put_d_lines.Statement.{statement}
-use Rattle.spheroidal.proofs.response.put_d_lines.Tie as tie
+use Rattle.stream.specs.Response.{dLines}
+use Rattle.stream.proofs.Laws.{put-nothing}
+use Rattle.stream.proofs.response.put_d_lines.Statement.{statement}
+use Rattle.stream.proofs.response.put_d_lines.Tie as tie
 
 abbrev Inv-loop : tie.InvT-loop
 Inv-loop values index m count out₀ at used₀ j₀ out used j =

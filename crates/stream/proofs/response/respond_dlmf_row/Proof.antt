@@ -1,9 +1,9 @@
--- `spheroidal::response::respond_dlmf_row` meets its contract. Assumes nothing.
+-- `stream::response::respond_dlmf_row` meets its contract. Assumes nothing.
 use native.Mathlib.Omega.{arith}
-use Rattle.spheroidal.proofs.Laws as laws
+use Rattle.stream.proofs.Laws as laws
 use borrow.Author.Needs.{needs}
-use Rattle.spheroidal.proofs.response.respond_dlmf_row.Statement.{statement}
-use Rattle.spheroidal.proofs.response.respond_dlmf_row.Tie as tie
+use Rattle.stream.proofs.response.respond_dlmf_row.Statement.{statement}
+use Rattle.stream.proofs.response.respond_dlmf_row.Tie as tie
 
 zero-doubles-requires : tie.Need-zero-doubles-requires
 zero-doubles-requires c κs = search needs

@@ -5,7 +5,7 @@ ghost use lib.ListN.{length, replicate};
 ghost use Rattle.arith.specs.Double.{#0};
 ghost use Rattle.records.specs.Text.{Put};
 ghost use Rattle.segv.specs.Row.{slices};
-ghost use Rattle.spheroidal.specs.Response.{vLines, dLines, rowText, dlmfText, responseTo};
+ghost use Rattle.stream.specs.Response.{vLines, dLines, rowText, dlmfText, responseTo};
 use modes::Kind;
 use modes::Mode;
 use modes::Operation;

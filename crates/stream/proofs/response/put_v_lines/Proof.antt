@@ -1,4 +1,4 @@
--- `spheroidal::response::put_v_lines` meets its contract. The invariant: the lines of the modes so far are put. Assumes nothing.
+-- `stream::response::put_v_lines` meets its contract. The invariant: the lines of the modes so far are put. Assumes nothing.
 use Prim.Native.Nat.{_+_, _-_, _*_, _≤_}
 use mathlib.Core.Path.{_≡_, refl}
 use native.Mathlib.Omega.{arith}
@@ -8,10 +8,10 @@ use borrow.Author.Needs.{needs}
 use Rattle.records.specs.Text.{Put}
 use Rattle.records.proofs.Laws.{put-then, put-length}
 use Rattle.segv.specs.Row.{slices}
-use Rattle.spheroidal.specs.Response.{vLines}
-use Rattle.spheroidal.proofs.Laws.{put-nothing}
-use Rattle.spheroidal.proofs.response.put_v_lines.Statement.{statement}
-use Rattle.spheroidal.proofs.response.put_v_lines.Tie as tie
+use Rattle.stream.specs.Response.{vLines}
+use Rattle.stream.proofs.Laws.{put-nothing}
+use Rattle.stream.proofs.response.put_v_lines.Statement.{statement}
+use Rattle.stream.proofs.response.put_v_lines.Tie as tie
 
 abbrev Inv-loop : tie.InvT-loop
 Inv-loop values steps lowers uppers index m count out₀ at used₀ j₀ out used j =

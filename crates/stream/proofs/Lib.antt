@@ -1,0 +1,5 @@
+-- Lemmas, then the theorems about the definitions.
+pub mod Laws
+pub mod Nexts
+pub mod Reached
+pub mod StreamLaws
