@@ -68,7 +68,7 @@ impl Comparison {
 }
 
 /// Whether damaged streams have landed, and with them the operations of the stream's sound records.
-fn stream_has_landed(mut stream: &[u8]) -> bool {
+pub fn stream_has_landed(mut stream: &[u8]) -> bool {
     let records = std::iter::from_fn(|| next_record(&mut stream)).flatten();
     let mut classes = records.map(|record| class_of(record.operation));
     has_landed(DAMAGED_STREAMS) && classes.all(has_landed)

@@ -33,6 +33,24 @@ pub fn damaged_streams(generator: &mut Generator, operations: &[u8]) -> Vec<Vec<
     streams
 }
 
+/// Streams with an operation that there is none of: it is refused, and the stream goes on, to a
+/// sound record, to a cut one and to a wrong mark.
+pub fn streams_of_other_operations(generator: &mut Generator, operations: &[u8]) -> Vec<Vec<u8>> {
+    let mut streams = Vec::new();
+    for operation in [0, 8, 255] {
+        let mut other = damaged_record(generator, MARK).to_vec();
+        other[MARK.len()] = operation;
+        let sound = with_records_before(generator, operations, 1, Vec::new());
+        let cut = damaged_record(generator, MARK)[..LENGTH - 1].to_vec();
+        let mut marked = damaged_record(generator, [MARK[1], MARK[0]]).to_vec();
+        marked.extend(&sound);
+        for rest in [Vec::new(), sound, cut, marked] {
+            streams.push([other.clone(), rest].concat());
+        }
+    }
+    streams
+}
+
 fn damaged_record(generator: &mut Generator, mark: [u8; 2]) -> [u8; LENGTH] {
     let mut bytes = generator.cheap_record(&[1, 2, 3, 4, 5, 6, 7]).to_bytes();
     bytes[..MARK.len()].copy_from_slice(&mark);

@@ -18,7 +18,7 @@ use oracle::reading::refusal;
 use oracle::record::Record;
 
 use checks::OwnChecks;
-use comparison::Comparison;
+use comparison::{Comparison, stream_has_landed};
 use generator::Generator;
 use known::Input;
 use landed::{CLASSES, DAMAGED_STREAMS, any_landed, class_of, has_landed, landed_operations};
@@ -27,8 +27,11 @@ use tally::Tally;
 
 const USAGE: &str = "usage: compare [--records | --replay] [N] [SEED]";
 const KNOWN_RECORDS: &str = "tests/oracle/traps.txt";
-/// Where the gate finds what it replays.
+/// Where the gate finds what it replays: one long stream, and many short ones.
 const REPLAY: &str = "crates/spheroidal";
+const REPLAY_STREAMS: &str = "crates/damaged_streams";
+/// The test program reads its streams at once.
+const MOST_STREAM_BYTES: usize = 65_536;
 const DEFAULT_RECORDS: usize = 20_000;
 const DEFAULT_SEED: u64 = 20_261_114;
 
@@ -129,28 +132,56 @@ fn write_records(generator: &mut Generator, count: usize) -> Result<ExitCode, St
 }
 
 /// Document 01's example, the known records and N fresh ones, as far as their operations have landed,
-/// and at the end a record that is cut short.
+/// and at the end a record that is cut short; and the short streams.
 fn write_replay(generator: &mut Generator, count: usize, file: &str) -> Result<ExitCode, String> {
-    let known = known::parse(file)?
-        .into_iter()
-        .filter_map(|known| match known.input {
-            Input::Record(record) => Some(record),
-            Input::Stream(_) => None,
-        });
     let mut records = checks::example_records().to_vec();
-    records.extend(known);
+    let mut streams = Vec::new();
+    for known in known::parse(file)? {
+        match known.input {
+            Input::Record(record) => records.push(record),
+            Input::Stream(stream) => streams.push(stream),
+        }
+    }
     records.extend(generator.records(count));
     records.retain(|record| has_landed(class_of(record.operation)));
     let mut stream: Vec<u8> = records.iter().flat_map(Record::to_bytes).collect();
     stream.extend(&records[0].to_bytes()[..20]);
     let lines = stream_lines(Build::PowerRule, &stream);
-    let write = |name: &str, bytes: &[u8]| {
-        std::fs::write(format!("{REPLAY}/{name}"), bytes).map_err(|error| error.to_string())
-    };
-    write("stdin", &stream)?;
-    write("stdout", lines.as_bytes())?;
+    write_pair(REPLAY, &stream, &lines)?;
     println!("{} records, {} lines", records.len(), lines.lines().count());
+    let operations = landed_operations();
+    streams.extend(damaged::damaged_streams(generator, &operations));
+    streams.extend(damaged::streams_of_other_operations(generator, &operations));
+    streams.retain(|stream| stream_has_landed(stream));
+    write_streams(&streams)?;
     Ok(ExitCode::SUCCESS)
+}
+
+/// Each stream after its length in two bytes, and its lines after a line `S` with its number.
+fn write_streams(streams: &[Vec<u8>]) -> Result<(), String> {
+    let mut input = Vec::new();
+    let mut lines = String::new();
+    for (number, stream) in streams.iter().enumerate() {
+        let length = u16::try_from(stream.len()).map_err(|error| error.to_string())?;
+        input.extend(length.to_le_bytes());
+        input.extend(stream);
+        lines += &format!("S {number}\n");
+        lines += &stream_lines(Build::PowerRule, stream);
+    }
+    if input.len() > MOST_STREAM_BYTES {
+        return Err(format!("the streams have {} bytes", input.len()));
+    }
+    write_pair(REPLAY_STREAMS, &input, &lines)?;
+    println!("{} streams, {} bytes", streams.len(), input.len());
+    Ok(())
+}
+
+fn write_pair(folder: &str, input: &[u8], lines: &str) -> Result<(), String> {
+    let write = |name: &str, bytes: &[u8]| {
+        std::fs::write(format!("{folder}/{name}"), bytes).map_err(|error| error.to_string())
+    };
+    write("stdin", input)?;
+    write("stdout", lines.as_bytes())
 }
 
 struct Run {
