@@ -1,3 +1,4 @@
 pub mod Response
 pub mod Stream
 pub mod StreamLaws
+pub mod Examples
