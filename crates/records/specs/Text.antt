@@ -1,4 +1,4 @@
--- Text in a lent buffer, and numbers as text. A byte of text is its ASCII code.
+-- Text in a buffer, and numbers as text. A byte of text is its ASCII code.
 use mathlib.Core.Path.{_≡_}
 use mathlib.Core.Bool.{true, false, cond}
 use mathlib.Core.List.{List, [], _∷_, _++_}

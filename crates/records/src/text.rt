@@ -1,4 +1,4 @@
-// Text into a lent buffer. Each function puts its text at a place and answers the place after it;
+// Text into the caller's slice. Each function puts its text at a place and answers the place after it;
 // the caller sees to it that the text fits. No other byte of the buffer changes.
 ghost use mathlib.Core.Path.{_≡_};
 ghost use mathlib.Core.List.{[], _∷_};
