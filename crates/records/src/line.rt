@@ -1,5 +1,5 @@
-// The lines that the program writes, into the caller's slice. Each function puts its line at a place and
-// answers the place after it. It asks for room for the longest line of its kind.
+// The lines that the program writes, into the caller's slice. Each function puts its line at a place
+// and answers the place after it. It asks for room for the longest line of its kind.
 ghost use mathlib.Core.Path.{_≡_};
 ghost use mathlib.Core.List.{_∷_};
 ghost use Prim.Native.Nat.{_+_, _≤_};

@@ -1,5 +1,5 @@
-// Text into the caller's slice. Each function puts its text at a place and answers the place after it;
-// the caller sees to it that the text fits. No other byte of the buffer changes.
+// Text into the caller's slice. Each function puts its text at a place and answers the place after
+// it; the caller sees to it that the text fits. No other byte of the slice changes.
 ghost use mathlib.Core.Path.{_≡_};
 ghost use mathlib.Core.List.{[], _∷_};
 ghost use Prim.Native.Nat.{_+_, _<_, _≤_};

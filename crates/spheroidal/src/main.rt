@@ -43,7 +43,7 @@ fn tell_not_built(input: &[u8], from: usize, to: usize, first: u64)
 }
 
 // How far a reading was answered.
-struct Answered {
+struct Reading {
     // The number of the next record.
     index: u64,
     // Nothing more is to be read: the stream was refused, or nobody reads the lines.
@@ -51,7 +51,7 @@ struct Answered {
 }
 
 // Writes the lines of the records that were read.
-fn answer_reading(input: &[u8], first: u64, out: &mut [u8]) -> Answered
+fn answer_reading(input: &[u8], first: u64, out: &mut [u8]) -> Reading
     requires { ⌜ (length (now out) ≡ 65536) × (length (now input) ≤ 65505) × (first < 1152921504606846976) ⌝ }
     ensures { λ r. ⌜ (r .index ≤ first + 1985) × (length (now (out .exit)) ≡ length (now (out .entry))) ⌝ }
 {
@@ -64,13 +64,13 @@ fn answer_reading(input: &[u8], first: u64, out: &mut [u8]) -> Answered
         index = progress.index;
         at = progress.at;
         if progress.refused {
-            return Answered { index, done: true };
+            return Reading { index, done: true };
         }
         if !written {
-            return Answered { index, done: true };
+            return Reading { index, done: true };
         }
     }
-    Answered { index, done: false }
+    Reading { index, done: false }
 }
 
 fn main() {
@@ -81,14 +81,14 @@ fn main() {
     let mut readings: u64 = 0;
     while readings < 562949953421312 {
         let got = io::read_full(STDIN_FILENO, &mut input);
-        let answered = answer_reading(&input[..got], index, &mut out);
-        if answered.done {
+        let reading = answer_reading(&input[..got], index, &mut out);
+        if reading.done {
             return;
         }
         if got < 65505 {
             return;
         }
-        index = answered.index;
+        index = reading.index;
         readings = readings + 1;
     }
 }

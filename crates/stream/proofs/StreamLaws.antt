@@ -14,7 +14,7 @@ use Rattle.records.specs.Record.{nextAt, numberAt}
 use Rattle.records.specs.Lines.{rLine}
 use Rattle.stream.specs.Response.{responseTo}
 use Rattle.stream.specs.Stream.{Answered, answeredIn, answered, linesIn, linesFrom, linesAfter}
-use Rattle.stream.specs.StreamLaws.{Joined, Moved, Moves, PartsJoined, NextPart}
+use Rattle.stream.specs.StreamLaws.{Unbounded, Joined, Moved, Moves, PartsJoined, NextPart}
 use Rattle.stream.proofs.Nexts.{at-end, some-left, whole-fits, none-left, answered-full, answered-end, answered-refused, answered-whole}
 
 -- ---- how far a call comes
@@ -93,6 +93,15 @@ lines-whole input at index r e = go (length input - at) (let w = whole-fits inpu
     go : (n : ℕ) → 0 < n → length input - at ≤ n → linesIn n input at index ≡ responseTo index r ++ linesFrom input (at + 33) (index + 1)
     go zero h p = absurd (omega arith)
     go (suc n) h p = rw (e, linesIn) (ap (λ (l : List ℕ). responseTo index r ++ l) (lines-same n (length input - (at + 33)) input (at + 33) (index + 1) (omega arith) (omega arith)))
+
+pub unbounded : Unbounded
+unfolding linesIn
+unbounded input at index = go (nextAt input at) refl
+  where
+    go : (x : Next) → nextAt input at ≡ x → linesFrom input at index ≡ elim (nextAt input at) [ End ↦ [] | Refused k ↦ rLine index k | Whole r ↦ responseTo index r ++ linesFrom input (at + 33) (index + 1) ]
+    go End e = let n : length input - at ≡ 0 = (let w = none-left input at e in omega arith) in rw (e, n, linesIn)
+    go (Refused k) e = rw e (lines-refused input at index k e)
+    go (Whole r) e = rw e (lines-whole input at index r e)
 
 -- ---- a call on `part`, seen in `stream`: both have the same next record wherever `Good` holds and `part` has something left
 module _ (part stream : List ℕ) (Good : ℕ → Type 0) (on : (at : ℕ) → Good at → Good (at + 33)) (same : (at : ℕ) → Good at → at < length part → nextAt stream at ≡ nextAt part at) (room : ℕ) where

@@ -2,10 +2,20 @@
 use Prim.Native.Nat.{ℕ, _+_, _*_, _≤_, _<_}
 use mathlib.Core.Path.{_≡_}
 use mathlib.Core.Bool.{false}
-use mathlib.Core.List.{List, _++_}
+use mathlib.Core.List.{List, [], _++_}
 use lib.ListN.{length}
+use Rattle.records.specs.declared.record.Next.the-variants.{Whole, Refused, End}
+use Rattle.records.specs.Record.{nextAt}
+use Rattle.records.specs.Lines.{rLine}
 use Rattle.stream.specs.declared.stream.Progress.{Progress}
+use Rattle.stream.specs.Response.{responseTo}
 use Rattle.stream.specs.Stream.{answered, progress, linesFrom, linesAfter}
+
+-- document 01's sentence as it stands: the bound on the number of records in the definition is never met
+abbrev pub Unbounded : Type 0
+Unbounded =
+    (input : List ℕ) (at index : ℕ)
+    → linesFrom input at index ≡ elim (nextAt input at) [ End ↦ [] | Refused k ↦ rLine index k | Whole r ↦ responseTo index r ++ linesFrom input (at + 33) (index + 1) ]
 
 -- what a call puts and what is still to come are the lines from its start on: no line is lost, made up, changed or put twice
 abbrev pub Joined : Type 0

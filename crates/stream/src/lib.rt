@@ -3,5 +3,6 @@
 mod response;
 mod stream;
 
+pub use response::LONGEST;
 pub use stream::Progress;
 pub use stream::answer_some;

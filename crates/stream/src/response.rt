@@ -12,6 +12,9 @@ use modes::Operation;
 use modes::RowAnswer;
 use records::Record;
 
+// No record's lines have more bytes: a row has at most 200 lines of 86.
+pub const LONGEST: usize = 17200;
+
 // Two hundred zeros. Made by a call, an array is one value in the caller's proof.
 fn zero_doubles() -> [f64; 200]
     ensures { λ r. ⌜ r ≡ replicate 200 #0 ⌝ }

@@ -20,10 +20,11 @@ pub struct Progress {
 }
 
 // Answers records from a byte of the input on, the first of them with number `first`, as long as the
-// buffer has room for the longest answer, 17,200 bytes. The contract determines the answer and every
-// byte of the buffer. It rules out a call that skips a record or answers it twice, leaves out the
-// line of a refused stream or goes on after it, miscounts, ends early, or writes past its lines.
-// `specs/StreamLaws.antt` has what follows for a stream that is answered by many calls.
+// buffer has room for the longest answer. The contract determines the answer and every byte of the
+// buffer. It rules out a call that skips a record or answers it twice, leaves out the line of a
+// refused stream or goes on after it, miscounts, ends early, or writes past its lines. It asks that
+// the records' numbers fit 64 bits. `specs/StreamLaws.antt` has what follows for a stream that is
+// answered by many calls.
 pub fn answer_some(input: &[u8], from: usize, first: u64, out: &mut [u8]) -> Progress
     requires { ⌜ first + length (now input) < 18446744073709551616 ⌝ }
     ensures { λ r. ⌜ Put (now (out .entry)) (now (out .exit)) 0 (r .used) (answered (now (input .entry)) (length (now (out .entry))) from first .text) ⌝ }
@@ -32,7 +33,7 @@ pub fn answer_some(input: &[u8], from: usize, first: u64, out: &mut [u8]) -> Pro
     let mut at = from;
     let mut index = first;
     let mut used: usize = 0;
-    while 17200 <= out.len() - used {
+    while response::LONGEST <= out.len() - used {
         let next = records::next_record(input, at);
         match next {
             Next::Whole(request) => {
@@ -57,7 +58,7 @@ pub fn answer_some(input: &[u8], from: usize, first: u64, out: &mut [u8]) -> Pro
             }
         }
         index = index + 1;
-        at = at + 33;
+        at = at + records::LENGTH;
     }
     Progress {
         at,
