@@ -1,5 +1,6 @@
 // Reads records from standard input and writes their lines to standard output, as document 01 has
-// them. What the lines are is proved in `stream`; here is only the reading and writing.
+// them. What the lines are is proved in `stream`; here is only the reading and writing. The two loops
+// follow `stream/specs/Readings.antt`, whose theorem says that all lines together are the stream's.
 ghost use mathlib.Core.Path.{_≡_};
 ghost use Prim.Native.Nat.{_+_, _<_, _≤_};
 ghost use lib.ListN.{length};

@@ -3,3 +3,4 @@ pub mod Laws
 pub mod Nexts
 pub mod Reached
 pub mod StreamLaws
+pub mod Readings

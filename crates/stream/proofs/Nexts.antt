@@ -1,10 +1,10 @@
 -- What the input has from a byte on, and how the definitions of a stream unfold by it. Assumes nothing.
 use Prim.Native.Nat.{ℕ, zero, suc, _+_, _-_, _≤_, _<_}
-use mathlib.Core.Path.{_≡_, refl, sym, ap, _∙_}
+use mathlib.Core.Path.{_≡_, refl, ap}
 use mathlib.Core.Bool.{Bool, true, false}
-use mathlib.Core.List.{List, [], _++_}
+use mathlib.Core.List.{List, _++_}
 use native.Mathlib.Omega.{arith}
-use borrow.Author.Tests.{leb-true, leb-false, le-leb, ltb-true, ltb-false}
+use borrow.Author.Tests.{leb-true, leb-false, le-leb, ltb-false}
 use lib.Dec.{leb, ltb}
 use lib.ListN.{length}
 use Rattle.records.specs.declared.record.Next.{Next}
@@ -13,7 +13,7 @@ use Rattle.records.specs.declared.record.Record.{Record}
 use Rattle.records.specs.Record.{nextAt, marked}
 use Rattle.records.specs.Lines.{rLine}
 use Rattle.stream.specs.Response.{responseTo}
-use Rattle.stream.specs.Stream.{Answered, answeredIn, linesIn}
+use Rattle.stream.specs.Stream.{answeredIn}
 
 -- the cases as numbers, so that two of them that differ do so by computation
 code : Next → ℕ

@@ -14,8 +14,8 @@ use Rattle.records.specs.Record.{nextAt, numberAt}
 use Rattle.records.specs.Lines.{rLine}
 use Rattle.stream.specs.Response.{responseTo}
 use Rattle.stream.specs.Stream.{Answered, answeredIn, answered, linesIn, linesFrom, linesAfter}
-use Rattle.stream.specs.StreamLaws.{Unbounded, Joined, Moved, Moves, PartsJoined, NextPart}
-use Rattle.stream.proofs.Nexts.{at-end, some-left, whole-fits, none-left, answered-full, answered-end, answered-refused, answered-whole}
+use Rattle.stream.specs.StreamLaws.{Unbounded, Joined, Moves, PartsJoined, NextPart}
+use Rattle.stream.proofs.Nexts.{at-end, some-left, whole-fits, none-left, answered-refused, answered-whole}
 
 -- ---- how far a call comes
 record MovedIn (input : List ℕ) (at index : ℕ) (a : Answered) : Type 0 where

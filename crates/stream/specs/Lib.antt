@@ -1,4 +1,5 @@
 pub mod Response
 pub mod Stream
 pub mod StreamLaws
+pub mod Readings
 pub mod Examples

@@ -1,4 +1,4 @@
--- What holds of the lines of a stream, as statements about the definitions. `proofs/StreamLaws.antt` proves them. Together they settle the lines of a stream, however it is cut into readings and calls.
+-- What holds of the lines of a stream, as statements about the definitions. `proofs/StreamLaws.antt` proves them. `Readings.antt` has what follows from them for a stream that comes in many readings.
 use Prim.Native.Nat.{ℕ, _+_, _*_, _≤_, _<_}
 use mathlib.Core.Path.{_≡_}
 use mathlib.Core.Bool.{false}

@@ -23,8 +23,8 @@ pub struct Progress {
 // buffer has room for the longest answer. The contract determines the answer and every byte of the
 // buffer. It rules out a call that skips a record or answers it twice, leaves out the line of a
 // refused stream or goes on after it, miscounts, ends early, or writes past its lines. It asks that
-// the records' numbers fit 64 bits. `specs/StreamLaws.antt` has what follows for a stream that is
-// answered by many calls.
+// the records' numbers fit 64 bits. `specs/Readings.antt` has what follows for a stream that comes
+// in many readings and is answered by many calls.
 pub fn answer_some(input: &[u8], from: usize, first: u64, out: &mut [u8]) -> Progress
     requires { ⌜ first + length (now input) < 18446744073709551616 ⌝ }
     ensures { λ r. ⌜ Put (now (out .entry)) (now (out .exit)) 0 (r .used) (answered (now (input .entry)) (length (now (out .entry))) from first .text) ⌝ }
