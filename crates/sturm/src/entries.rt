@@ -3,7 +3,7 @@ ghost use mathlib.Core.Path.{_≡_};
 ghost use Prim.Native.Nat.{_+_, _<_, _≤_};
 ghost use Rattle.sturm.specs.Entries.{entryA, entryD, entryG, entryE, blankEntries, diagonal, offDiagonal, squares};
 
-fn entry_a(m: u32, k: u32, cs: f64) -> f64
+pub fn entry_a(m: u32, k: u32, cs: f64) -> f64
     requires { ⌜ m + k < 4096 ⌝ }
     ensures { λ r. ⌜ r ≡ entryA m k cs ⌝ }
 {
@@ -12,7 +12,7 @@ fn entry_a(m: u32, k: u32, cs: f64) -> f64
     (d2k + 2.0) * (d2k + 1.0) / ((dk2 + 3.0) * (dk2 + 5.0)) * cs
 }
 
-fn entry_d(m: u32, k: u32, cs: f64) -> f64
+pub fn entry_d(m: u32, k: u32, cs: f64) -> f64
     requires { ⌜ m + k < 4096 ⌝ }
     ensures { λ r. ⌜ r ≡ entryD m k cs ⌝ }
 {
@@ -23,7 +23,7 @@ fn entry_d(m: u32, k: u32, cs: f64) -> f64
     dk0 * dk1 + (2.0 * dk0 * dk1 - 2.0 * dm * dm - 1.0) / ((dk2 - 1.0) * (dk2 + 3.0)) * cs
 }
 
-fn entry_g(m: u32, k: u32, cs: f64) -> f64
+pub fn entry_g(m: u32, k: u32, cs: f64) -> f64
     requires { ⌜ m + k < 4096 ⌝ }
     ensures { λ r. ⌜ r ≡ entryG m k cs ⌝ }
 {

@@ -5,6 +5,9 @@ mod gershgorin_bounds;
 mod pivots;
 
 pub use entries::blank;
+pub use entries::entry_a;
+pub use entries::entry_d;
+pub use entries::entry_g;
 pub use entries::fill;
 pub use gershgorin_bounds::Bounds;
 pub use gershgorin_bounds::gershgorin;

@@ -1,0 +1,76 @@
+-- How the definitions of `sdmn` and `sckb` unfold at one turn of a loop, in the form in which the proofs of the code meet them. Assumes nothing.
+use Prim.Native.Nat.{ℕ, zero, suc, _+_, _-_, _<_}
+use mathlib.Core.Path.{_≡_, refl, sym, ap, _∙_}
+use mathlib.Core.Bool.{true, false}
+use mathlib.Core.List.{List}
+use native.Mathlib.Omega.{arith}
+use native.Mathlib.Nat.{sub-zero}
+use lib.Ieee.{Float, neg}
+use lib.ListN.{set}
+use Rattle.arith.specs.Double.{_⊕_, _⊗_, _⊘_, dbl, at}
+use Rattle.expansion.specs.declared.sdmn.Recurrence.{Recurrence}
+use Rattle.expansion.specs.declared.sckb.Partial.{Partial}
+use Rattle.expansion.specs.Sums.{converged, blank}
+use Rattle.expansion.specs.Products.{rising}
+use Rattle.expansion.specs.Sdmn.{below, above, exceeds, reduced, reducedPlaces, storedBelow, descend, descended, downward, climbed, ascended, upward, sumPast, factorAt, normOf, normalised, scaled, expanded}
+use Rattle.expansion.specs.Sckb.{terms, sumOf, filled, valueOf, regulator}
+use Rattle.expansion.specs.Sckb as Sckb
+
+-- ---- the downward pass at place k
+module _ (r : Recurrence) (nm : ℕ) (f1 f0 f : Float) (df : List Float) where
+  pub descend-stop : (k : ℕ) → 0 < k → f ≡ below r k f1 f0 → exceeds f (at df k) ≡ false → downward k (at df k) df ≡ descend r nm k f1 f0 df
+  unfolding descend
+  descend-stop zero z is h = absurd (omega arith)
+  descend-stop (suc k) z is h = sym (rw (rw is at h, descend))
+
+  pub descend-on : (k : ℕ) (a b : Float) (ys : List Float) → 0 < k → f ≡ below r k f1 f0 → exceeds f (at df k) ≡ true → a ≡ reduced f f0 → b ≡ reduced f f
+      → ys ≡ reducedPlaces f (nm - (k - 1)) (k - 1) (set df (k - 1) f) → descend r nm (k - 1) a b ys ≡ descend r nm k f1 f0 df
+  unfolding descend
+  descend-on zero a b ys z is h ha hb hy = absurd (omega arith)
+  descend-on (suc k) a b ys z is h ha hb hy = let one : suc k - 1 ≡ k = omega arith in rw (ha, hb, hy, one, is) (sym (rw (rw is at h, descend)))
+
+-- ---- a turn of the upward pass
+pub climb-on : (r : Recurrence) (kb left i : ℕ) (f1 f2 f a b : Float) (df xs ys : List Float) → f ≡ above r i f1 f2 → xs ≡ storedBelow kb (i + 1) f df
+    → ys ≡ reducedPlaces f (i + 2 - 0) 0 xs → a ≡ reduced f f2 → b ≡ reduced f f → climbed r kb left (suc i) a b ys ≡ climbed r kb (suc left) i f1 f2 df
+unfolding climbed
+climb-on r kb left i f1 f2 f a b df xs ys hf hx hy ha hb = rw (ha, hb, hy, hx, hf, sub-zero (i + 2))
+
+-- ---- a term of the sum past the joint
+module _ (df : List Float) (m ip left k : ℕ) (r1 r su2 sw : Float) (hr : r ≡ factorAt m ip k r1) where
+  pub past-stop : converged sw (su2 ⊕ r ⊗ at df (k - 1)) ≡ true → su2 ⊕ r ⊗ at df (k - 1) ≡ sumPast df m ip (suc left) k r1 su2 sw
+  unfolding sumPast
+  past-stop h = rw hr (sym (rw (rw hr at h, sumPast)))
+
+  pub past-on : converged sw (su2 ⊕ r ⊗ at df (k - 1)) ≡ false → sumPast df m ip left (suc k) r (su2 ⊕ r ⊗ at df (k - 1)) (su2 ⊕ r ⊗ at df (k - 1)) ≡ sumPast df m ip (suc left) k r1 su2 sw
+  unfolding sumPast
+  past-on h = rw hr (sym (rw (rw hr at h, sumPast)))
+
+-- ---- both passes, normalised
+pub expanded-is : (r : Recurrence) (n nm kb : ℕ) (fl fs s0 : Float) (b d u v w : List Float) → b ≡ blank → downward kb fl d ≡ descended r nm b → upward fs u ≡ ascended r kb d
+    → s0 ≡ normOf r n nm (downward kb fl u) (upward fs u) → v ≡ scaled (fl ⊘ fs ⊗ s0) (kb - 0) 0 u → w ≡ scaled s0 (nm - kb) kb v → w ≡ expanded r n nm
+unfolding expanded normOf normalised
+expanded-is r n nm kb fl fs s0 b d u v w hb hd hu hs hv hw = let e = sym (rw hb at hd) in rw (e, ← hu, ← hs, hw, hv, sub-zero kb)
+
+-- ---- a term of a power coefficient's sum
+module _ (df : List Float) (m ip k left i : ℕ) (r r' sum sw : Float) (hr : r' ≡ Sckb.nextFactor m ip k r i) where
+  pub terms-stop : converged sw (sum ⊕ r' ⊗ at df i) ≡ true → record { sum = sum ⊕ r' ⊗ at df i; sw = sw } ≡ terms df m ip k (suc left) i r sum sw
+  unfolding terms
+  terms-stop h = rw hr (sym (rw (rw hr at h, terms)))
+
+  pub terms-on : converged sw (sum ⊕ r' ⊗ at df i) ≡ false → terms df m ip k left (suc i) r' (sum ⊕ r' ⊗ at df i) (sum ⊕ r' ⊗ at df i) ≡ terms df m ip k (suc left) i r sum sw
+  unfolding terms
+  terms-on h = rw hr (sym (rw (rw hr at h, terms)))
+
+-- ---- a power coefficient
+pub filled-on : (df : List Float) (m ip nm left k : ℕ) (fac sw reg r1 : Float) (p : Partial) (ck : List Float) → reg ≡ regulator m nm → p ≡ sumOf df m ip nm reg k sw
+    → r1 ≡ Sckb.factorial reg (m + k) → filled df m ip nm left (suc k) (neg fac) (p .sw) (set ck k (neg fac ⊗ p .sum ⊘ r1)) ≡ filled df m ip nm (suc left) k fac sw ck
+unfolding filled
+filled-on df m ip nm left k fac sw reg r1 p ck hg hp hr = rw (hr, hp, hg)
+
+-- ---- reg × (n + 1)! from reg × n!
+pub factorial-on : (reg : Float) (n : ℕ) → 0 < n → Sckb.factorial reg n ⊗ dbl (n + 1) ≡ Sckb.factorial reg (n + 1)
+unfolding Sckb.factorial rising
+factorial-on reg n h =
+    let e : n + 1 - 1 ≡ suc (n - 1) = omega arith in
+    let t : n + 1 ≡ 2 + (n - 1) = omega arith in
+    rw e (ap (λ (x : ℕ). rising reg 2 (n - 1) ⊗ dbl x) t)

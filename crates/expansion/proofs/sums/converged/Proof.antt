@@ -1,0 +1,18 @@
+-- `expansion::sums::converged` meets its contract. Assumes nothing.
+use borrow.Author.Needs.{needs}
+use Rattle.expansion.specs.Sums.{converged}
+use Rattle.expansion.proofs.sums.converged.Statement.{statement}
+use Rattle.expansion.proofs.sums.converged.Tie as tie
+
+abs-requires : tie.Need-abs-requires
+abs-requires c κs = search needs
+
+abs-requires-2 : tie.Need-abs-requires-2
+abs-requires-2 c κs = search needs
+
+returns : tie.Need-returns
+unfolding converged
+returns c = rw (c .before .abs .ensures, c .abs2 .ensures)
+
+pub converged-spec : {M : Type 1} → statement M
+converged-spec = tie.close (tie.spec abs-requires abs-requires-2 returns)

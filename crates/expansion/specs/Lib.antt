@@ -1,0 +1,4 @@
+pub mod Products
+pub mod Sums
+pub mod Sdmn
+pub mod Sckb

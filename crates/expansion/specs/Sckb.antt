@@ -1,0 +1,58 @@
+-- The coefficients of the powers of 1 − x² (`sckb`), in the order and with the names of the source. Definitions only.
+use Prim.Native.Nat.{ℕ, zero, suc, _+_, _-_, _*_}
+use mathlib.Core.Bool.{Bool, true, false, cond}
+use mathlib.Core.List.{List}
+use lib.Dec.{eqb, ltb}
+use lib.Ieee.{Float, neg}
+use lib.ListN.{set}
+use Rattle.arith.specs.Double.{_⊕_, _⊖_, _⊗_, _⊘_, dbl, at, #0, #0·5, #1, #2, #1e-200}
+use Rattle.arith.specs.Powers.{power}
+use Rattle.expansion.specs.declared.sckb.Partial.{Partial}
+use Rattle.expansion.specs.Products.{rising, risingBy}
+use Rattle.expansion.specs.Sums.{converged, blank}
+
+-- large orders are taken down by 1e-200
+unfoldable pub regulator : ℕ → ℕ → Float
+regulator m nm = cond (ltb 80 (m + nm)) #1e-200 #1
+
+-- the factor of term i of coefficient k, from that of the term before
+abbrev pub nextFactor : ℕ → ℕ → ℕ → Float → ℕ → Float
+nextFactor m ip k r i =
+    let d1 = #2 ⊗ dbl i ⊕ dbl ip in
+    let d2 = #2 ⊗ dbl m ⊕ d1 in
+    let d3 = dbl (i + m + ip) ⊖ #0·5 in
+    r ⊗ d2 ⊗ (d2 ⊖ #1) ⊗ dbl i ⊗ (d3 ⊕ dbl k) ⊘ (d1 ⊗ (d1 ⊖ #1) ⊗ dbl (i - k) ⊗ d3)
+
+-- `left` more terms from term i on, until the sum has converged. sw is the sum remembered; a sum that has converged is not
+unfoldable pub terms : List Float → ℕ → ℕ → ℕ → ℕ → ℕ → Float → Float → Float → Partial
+terms df m ip k zero i r sum sw = record { sum = sum; sw = sw }
+terms df m ip k (suc left) i r sum sw =
+    let r' = nextFactor m ip k r i in
+    let sum' = sum ⊕ r' ⊗ at df i in
+    elim (converged sw sum') [ true ↦ record { sum = sum'; sw = sw } | false ↦ terms df m ip k left (suc i) r' sum' sum' ]
+
+-- the sum of coefficient k, from the sum remembered
+unfoldable pub sumOf : List Float → ℕ → ℕ → ℕ → Float → ℕ → Float → Partial
+sumOf df m ip nm reg k sw =
+    let r = risingBy (rising reg (2 * k + ip + 1) (2 * m)) (k + m + ip) #0·5 k in
+    terms df m ip k (nm - k) (suc k) r (r ⊗ at df k) sw
+
+-- reg × n!, from reg on
+unfoldable pub factorial : Float → ℕ → Float
+factorial reg n = rising reg 2 (n - 1)
+
+-- coefficient k from its sum: times fac, over reg × (m + k)!
+abbrev pub valueOf : Float → ℕ → ℕ → Float → Float → Float
+valueOf reg m k fac sum = fac ⊗ sum ⊘ factorial reg (m + k)
+
+-- `left` more coefficients from place k on. The sum remembered is carried from k to k, and fac changes its sign
+unfoldable pub filled : List Float → ℕ → ℕ → ℕ → ℕ → ℕ → Float → Float → List Float → List Float
+filled df m ip nm zero k fac sw ck = ck
+filled df m ip nm (suc left) k fac sw ck =
+    let reg = regulator m nm in
+    let p = sumOf df m ip nm reg k sw in
+    filled df m ip nm left (suc k) (neg fac) (p .sw) (set ck k (valueOf reg m k (neg fac) (p .sum)))
+
+-- the first `count` coefficients; the source's are all nm
+unfoldable pub powers : List Float → ℕ → ℕ → ℕ → ℕ → List Float
+powers df m ip nm count = filled df m ip nm count 0 (neg (power #0·5 m)) #0 blank
