@@ -6,16 +6,20 @@ use Prim.Native.Nat.{ℕ, _+_, _-_, _*_, _/_, _^_, _≤_, _<_, min}
 use native.Mathlib.Nat.{zero-div, mul-one, mul-pos, mul-mul-mul-comm, mul-right-comm, div-lt-iff-lt-mul, lt-of-mul-lt-mul-right}
 use native.Mathlib.Omega.{arith}
 use borrow.Author.Tests.{ltb-true, ltb-false}
-use lib.IntN.{pos, negℤ}
+use lib.IntN.{ℤ, pos, negℤ}
 use lib.Ieee.{Float, nan, inf, fin, binary64, up, down, round, mul, lt, neg, ofInt, toSigned, ofBits}
 use lib.Ieee.Back.{round-whole}
 use lib.Ieee.Scale.{round-same}
 use lib.Ieee.Exact.{HasValue}
 use lib.Ieee.Fits.{down-pos}
-use Rattle.arith.specs.Double.{_⊗_, dbl, #0}
+use mir.Syntax.{w32}
+use mir.Val.{toZ, ofZ}
+use mir.Facts.{toZ-ofZ}
+use Rattle.arith.specs.Double.{_⊕_, _⊗_, _⊘_, dbl, #0, #2}
 use Rattle.arith.specs.Truncation.{truncate}
 use Rattle.arith.specs.Choice.{abs, lesser, greater}
 use Rattle.arith.proofs.Flags.{not-taken, not-left}
+use Rattle.arith.proofs.Unsigned.{Unsigned, dbl-unsigned, quotient-unsigned, sum-unsigned, unsigned-not-below}
 
 -- ---- truncation
 
@@ -43,7 +47,19 @@ truncate-below (fin false m e) (fin false n d) b v B h p q =
     small : (c : ℕ) → c < b → min c (2 ^ 31 - 1) ≡ c
     small c l = omega arith
 
+-- the same of a sum, x with its sign clear and c not below zero
+pub truncate-sum-below : (x c y : Float) (b : ℕ) → Unsigned x → HasValue y false b 1 → 0 < b → b ≤ 2 ^ 31 → lt c #0 ≡ false → lt (x ⊕ c) y ≡ true → (t : ℕ) × (truncate (x ⊕ c) ≡ pos t) × (t < b)
+truncate-sum-below x c y b u v B h p q = truncate-below (x ⊕ c) y b v B h (unsigned-not-below (x ⊕ c) (sum-unsigned x c u p)) q
+
+-- a whole number as the machine reads it back from 32 bits
+pub reads-back : (z : ℤ) (t : ℕ) → z ≡ pos t → t < 2 ^ 31 → toZ w32 (ofZ w32 z) ≡ pos t
+reads-back z t e l = ap (λ (z : ℤ). toZ w32 (ofZ w32 z)) e ∙ toZ-ofZ {w = w32} {z = pos t} (record { sfits = omega arith })
+
 -- ---- whole numbers
+
+pub half-unsigned : (n : ℕ) → Unsigned (dbl n ⊘ #2)
+unfolding ofBits
+half-unsigned n = quotient-unsigned (dbl n) #2 (dbl-unsigned n) refl
 
 -- two whole numbers' product is exact where a double holds each
 pub dbl-product : (a b : ℕ) → a ≤ 2 ^ 53 → b ≤ 2 ^ 53 → dbl a ⊗ dbl b ≡ dbl (a * b)

@@ -1,20 +1,68 @@
 -- How the definitions of `sdmn` and `sckb` unfold at one turn of a loop, in the form in which the proofs of the code meet them. Assumes nothing.
 use Prim.Native.Nat.{ℕ, zero, suc, _+_, _-_, _<_}
 use mathlib.Core.Path.{_≡_, refl, sym, ap, _∙_}
-use mathlib.Core.Bool.{true, false}
+use mathlib.Core.Logic.{⊎-elim}
+use mathlib.Core.Bool.{Bool, true, false, cond}
 use mathlib.Core.List.{List}
 use native.Mathlib.Omega.{arith}
-use native.Mathlib.Nat.{sub-zero}
-use lib.Ieee.{Float, neg}
+use native.Mathlib.Nat.{sub-zero, eq-or-lt-of-le}
+use lib.IntN.{ℤ, pos, natAbs}
+use lib.Ieee.{Float, neg, lt, le, add, div, ofInt, ofBits}
 use lib.ListN.{set}
-use Rattle.arith.specs.Double.{_⊕_, _⊗_, _⊘_, dbl, at}
+use mir.Syntax.{w32}
+use mir.Val.{toZ, ofZ}
+use Rattle.arith.specs.Double.{_⊕_, _⊗_, _⊘_, dbl, at, #0, #2, #1e-10}
+use Rattle.arith.specs.Truncation.{truncate}
+use Rattle.arith.proofs.Flags.{not-taken}
+use Rattle.arith.proofs.Laws.{truncate-sum-below, reads-back, half-unsigned}
 use Rattle.expansion.specs.declared.sdmn.Recurrence.{Recurrence}
 use Rattle.expansion.specs.declared.sckb.Partial.{Partial}
 use Rattle.expansion.specs.Sums.{converged, blank}
+use Rattle.expansion.specs.Terms.{halfSum, termsOf, clamped, #175}
 use Rattle.expansion.specs.Products.{rising}
 use Rattle.expansion.specs.Sdmn.{below, above, exceeds, reduced, reducedPlaces, storedBelow, descend, descended, downward, climbed, ascended, upward, sumPast, factorAt, normOf, normalised, scaled, expanded}
 use Rattle.expansion.specs.Sckb.{terms, sumOf, filled, valueOf, regulator}
 use Rattle.expansion.specs.Sckb as Sckb
+
+-- ---- how far the sums run
+
+-- the whole part of H, and as the machine reads it back
+pub terms-whole : (offset : ℕ) (c : Float) (z : ℤ) → lt c #0 ≡ false → lt (halfSum offset c) #175 ≡ true → z ≡ truncate (halfSum offset c)
+    → (t : ℕ) × (toZ w32 (ofZ w32 z) ≡ pos t) × (t < 175) × (25 + t ≡ termsOf offset c)
+unfolding termsOf ofBits
+terms-whole offset c z p q e =
+    let k = truncate-sum-below (dbl offset ⊘ #2) c #175 175 (half-unsigned offset) (refl, refl) (omega arith) (omega arith) p q in
+    (k .0, reads-back z (k .0) (e ∙ k .1) (omega (arith, k .2)), k .2, ap (λ (z : ℤ). 25 + natAbs z) (sym (k .1)))
+
+-- for each offset below n, (offset)/2 + 1e-10 is below 175
+tiny-sums : ℕ → Bool
+tiny-sums zero = true
+tiny-sums (suc k) = cond (lt (halfSum k #1e-10) #175) (tiny-sums k) false
+
+tiny-sums-200 : tiny-sums 200 ≡ true
+unfolding tiny-sums lt add div ofInt ofBits
+tiny-sums-200 = refl
+
+both : (a b : Bool) → cond a b false ≡ true → (a ≡ true) × (b ≡ true)
+both true b h = (refl, h)
+both false b h = not-taken h
+
+tiny-sum : (n k : ℕ) → tiny-sums n ≡ true → k < n → lt (halfSum k #1e-10) #175 ≡ true
+unfolding tiny-sums
+tiny-sum zero k h l = absurd (omega arith)
+tiny-sum (suc n) k h l =
+    let p = both (lt (halfSum n #1e-10) #175) (tiny-sums n) h in
+    ⊎-elim (λ q. rw q (p .0)) (λ q. tiny-sum n k (p .1) q) (eq-or-lt-of-le {n = k} {m = n} (omega arith))
+
+-- what `terms` asks, of the c that `sckb` takes
+pub clamped-usable : (offset : ℕ) (c : Float) → offset < 200 → lt c #0 ≡ false → lt (halfSum offset c) #175 ≡ true
+    → (lt (clamped c) #0 ≡ false) × (lt (halfSum offset (clamped c)) #175 ≡ true)
+unfolding clamped lt ofBits
+clamped-usable offset c o p q = go (le c #1e-10)
+  where
+    go : (t : Bool) → (lt (cond t #1e-10 c) #0 ≡ false) × (lt (halfSum offset (cond t #1e-10 c)) #175 ≡ true)
+    go true = (refl, tiny-sum 200 offset tiny-sums-200 o)
+    go false = (p, q)
 
 -- ---- the downward pass at place k
 module _ (r : Recurrence) (nm : ℕ) (f1 f0 f : Float) (df : List Float) where

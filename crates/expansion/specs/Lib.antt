@@ -1,3 +1,4 @@
+pub mod Terms
 pub mod Products
 pub mod Sums
 pub mod Sdmn

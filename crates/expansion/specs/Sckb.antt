@@ -1,5 +1,5 @@
 -- The coefficients of the powers of 1 − x² (`sckb`), in the order and with the names of the source. Definitions only.
-use Prim.Native.Nat.{ℕ, zero, suc, _+_, _-_, _*_}
+use Prim.Native.Nat.{ℕ, zero, suc, _+_, _-_, _*_, _%_}
 use mathlib.Core.Bool.{Bool, true, false, cond}
 use mathlib.Core.List.{List}
 use lib.Dec.{eqb, ltb}
@@ -8,6 +8,7 @@ use lib.ListN.{set}
 use Rattle.arith.specs.Double.{_⊕_, _⊖_, _⊗_, _⊘_, dbl, at, #0, #0·5, #1, #2, #1e-200}
 use Rattle.arith.specs.Powers.{power}
 use Rattle.expansion.specs.declared.sckb.Partial.{Partial}
+use Rattle.expansion.specs.Terms.{powerTermsOf}
 use Rattle.expansion.specs.Products.{rising, risingBy}
 use Rattle.expansion.specs.Sums.{converged, blank}
 
@@ -53,6 +54,10 @@ filled df m ip nm (suc left) k fac sw ck =
     let p = sumOf df m ip nm reg k sw in
     filled df m ip nm left (suc k) (neg fac) (p .sw) (set ck k (valueOf reg m k (neg fac) (p .sum)))
 
--- the first `count` coefficients; the source's are all nm
+-- the first `count` of nm coefficients
 unfoldable pub powers : List Float → ℕ → ℕ → ℕ → ℕ → List Float
 powers df m ip nm count = filled df m ip nm count 0 (neg (power #0·5 m)) #0 blank
+
+-- all of them
+unfoldable pub sckb : List Float → ℕ → ℕ → Float → List Float
+sckb df m n c = powers df m ((n - m) % 2) (powerTermsOf (n - m) c) (powerTermsOf (n - m) c)

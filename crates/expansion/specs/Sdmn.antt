@@ -10,6 +10,7 @@ use Rattle.arith.specs.Choice.{abs}
 use Rattle.sturm.specs.Entries.{entryA, entryD, entryG}
 use Rattle.expansion.specs.declared.sdmn.Recurrence.{Recurrence}
 use Rattle.expansion.specs.declared.sdmn.Sum.{Sum}
+use Rattle.expansion.specs.Terms.{termsOf}
 use Rattle.expansion.specs.Products.{rising, risingBy}
 use Rattle.expansion.specs.Sums.{converged, blank}
 
@@ -162,11 +163,11 @@ expanded r n nm =
     let up = ascended r (down .kb) (down .df) in
     normalised nm down up (normOf r n nm down up)
 
--- ---- the coefficients: kd is the sign of the kind, and nm is document 01's N
+-- ---- the coefficients; kd is the sign of the kind
 
 unfoldable pub recurrenceOf : ℕ → ℕ → Float → Float → Float → Recurrence
 recurrenceOf m n c cv kd = record { m = m; ip = (n - m) % 2; cs = c ⊗ c ⊗ kd; cv = cv }
 
 -- where c is below 1e-10, 1 at place (n − m)/2 alone
-unfoldable pub sdmn : ℕ → ℕ → Float → Float → Float → ℕ → List Float
-sdmn m n c cv kd nm = cond (lt c #1e-10) (set blank ((n - m) / 2) #1) (expanded (recurrenceOf m n c cv kd) n nm)
+unfoldable pub sdmn : ℕ → ℕ → Float → Float → Float → List Float
+sdmn m n c cv kd = cond (lt c #1e-10) (set blank ((n - m) / 2) #1) (expanded (recurrenceOf m n c cv kd) n (termsOf (n - m) c))

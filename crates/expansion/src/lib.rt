@@ -4,3 +4,4 @@ pub mod products;
 pub mod sckb;
 pub mod sdmn;
 pub mod sums;
+pub mod terms;

@@ -1,6 +1,7 @@
 // The source's `sckb`: the coefficients of the powers of 1 - x^2, from the expansion coefficients.
 ghost use mathlib.Core.Path.{_≡_};
 ghost use Prim.Native.Nat.{_+_, _-_, _<_, _≤_, suc};
+ghost use Rattle.expansion.specs.Terms as Terms;
 ghost use Rattle.expansion.specs.Sckb as Sckb;
 use super::sums::Places;
 
@@ -95,8 +96,8 @@ fn regulator(m: u32, nm: u32) -> f64
     1.0
 }
 
-// The first `count` coefficients of the powers of 1 - x^2.
-pub fn sckb(df: &[f64; 200], m: u32, ip: u32, nm: u32, count: u32) -> Places
+// The first `count` of nm coefficients.
+fn powers(df: &[f64; 200], m: u32, ip: u32, nm: u32, count: u32) -> Places
     requires { ⌜ (m < 1000) × (ip < 2) × (nm < 200) × (count ≤ nm) ⌝ }
     ensures { λ x. ⌜ x ≡ Sckb.powers (now (df .entry)) m ip nm count ⌝ }
 {
@@ -116,4 +117,13 @@ pub fn sckb(df: &[f64; 200], m: u32, ip: u32, nm: u32, count: u32) -> Places
         k = k + 1;
     }
     ck
+}
+
+// The coefficients of the powers of 1 - x^2 for the mode of order m and degree n.
+pub fn sckb(df: &[f64; 200], m: u32, n: u32, c: f64) -> Places
+    requires { ⌜ Terms.Usable m n c ⌝ }
+    ensures { λ x. ⌜ x ≡ Sckb.sckb (now (df .entry)) m n c ⌝ }
+{
+    let nm = super::terms::power_terms(n - m, c);
+    powers(df, m, (n - m) % 2, nm, nm)
 }

@@ -3,6 +3,7 @@
 ghost use mathlib.Core.Path.{_≡_};
 ghost use Prim.Native.Nat.{_+_, _-_, _<_, _≤_};
 ghost use Rattle.arith.specs.Double.{#0};
+ghost use Rattle.expansion.specs.Terms as Terms;
 ghost use Rattle.expansion.specs.Sdmn as Sdmn;
 use super::sums::Places;
 
@@ -284,11 +285,11 @@ fn expand(r: Recurrence, n: u32, nm: u32) -> Places
     df
 }
 
-// The expansion coefficients of the mode of order m and degree n; kd is the sign of the kind, and nm
-// is document 01's N. Places that the source does not write are zero.
-pub fn sdmn(m: u32, n: u32, c: f64, cv: f64, kd: f64, nm: u32) -> Places
-    requires { ⌜ (m ≤ n) × (n < m + 200) × (m < 200) × (nm < 200) ⌝ }
-    ensures { λ x. ⌜ x ≡ Sdmn.sdmn m n c cv kd nm ⌝ }
+// The expansion coefficients of the mode of order m and degree n; kd is the sign of the kind. Places
+// that the source does not write are zero.
+pub fn sdmn(m: u32, n: u32, c: f64, cv: f64, kd: f64) -> Places
+    requires { ⌜ Terms.Usable m n c ⌝ }
+    ensures { λ x. ⌜ x ≡ Sdmn.sdmn m n c cv kd ⌝ }
 {
     if c < 1e-10 {
         let mut df = super::sums::blank();
@@ -301,5 +302,6 @@ pub fn sdmn(m: u32, n: u32, c: f64, cv: f64, kd: f64, nm: u32) -> Places
         cs: c * c * kd,
         cv,
     };
+    let nm = super::terms::terms(n - m, c);
     expand(r, n, nm)
 }

@@ -12,12 +12,10 @@ use lib.Ieee.Compare.{differs-from-itself}
 use lib.ListN.{length, replicate}
 use mir.Syntax.{w32}
 use mir.Val.{toZ, ofZ}
-use mir.Facts.{toZ-ofZ}
 use Rattle.arith.specs.Double.{_⊘_, _⊗_, dbl, #0, #1, #2, #1e-10}
 use Rattle.arith.specs.Truncation.{truncate}
 use Rattle.arith.proofs.Flags.{not-left}
-use Rattle.arith.proofs.Unsigned.{dbl-unsigned, quotient-unsigned, sum-unsigned, unsigned-not-below}
-use Rattle.arith.proofs.Laws.{truncate-below}
+use Rattle.arith.proofs.Laws.{truncate-sum-below, reads-back, half-unsigned}
 use Rattle.segv.specs.Families.{bothFamilies}
 use Rattle.segv.specs.Row.{Slices, slices, writtenRow, RowAnswer, answer, segvRow}
 use Rattle.modes.specs.declared.checking.Mode.{Mode}
@@ -75,7 +73,7 @@ none-applies false false false h = absurd (omega arith)
 -- H is not below zero where c is not, so that its whole part is a whole number
 h-whole : (x : Mode) → noParameter (x .c) ≡ false → lt (hOf x) #291 ≡ true → (t : ℕ) × (truncate (hOf x) ≡ pos t) × (t < 291)
 unfolding hOf ofBits
-h-whole x p l = truncate-below (hOf x) #291 291 (refl, refl) (omega arith) (omega arith) (unsigned-not-below (hOf x) (sum-unsigned (dbl (x .n - x .m) ⊘ #2) (x .c) (quotient-unsigned (dbl (x .n - x .m)) #2 (dbl-unsigned (x .n - x .m)) refl) (not-negative (x .c) p))) l
+h-whole x p l = truncate-sum-below (dbl (x .n - x .m) ⊘ #2) (x .c) #291 291 (half-unsigned (x .n - x .m)) (refl, refl) (omega arith) (omega arith) (not-negative (x .c) p) l
 
 passes : (x : Mode) → rowRefusal x ≡ 0 → (outOfRange x ≡ false) × (noParameter (x .c) ≡ false) × (lt (hOf x) #291 ≡ true)
 unfolding refusalOf
@@ -90,7 +88,7 @@ unfolding entriesOf
 read-back x h z r hh hz =
     let k = whole-part x r in
     let e : z ≡ pos (k .0) = hz ∙ ap truncate hh ∙ k .1 in
-    (k .0, ap (λ (z : ℤ). toZ w32 (ofZ w32 z)) e ∙ toZ-ofZ {w = w32} {z = pos (k .0)} (record { sfits = omega (arith, k .2) }), k .2, ap (λ (z : ℤ). 10 + natAbs z) (sym (k .1)))
+    (k .0, reads-back z (k .0) e (omega (arith, k .2)), k .2, ap (λ (z : ℤ). 10 + natAbs z) (sym (k .1)))
 
 pub accepted : (x : Mode) → rowRefusal x ≡ 0 → Accepted x
 unfolding outOfRange entriesOf

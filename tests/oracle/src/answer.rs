@@ -59,6 +59,17 @@ fn rswfo(record: &Record) -> [f64; 4] {
     [r1f, r1d, r2f, r2d]
 }
 
+/// The expansion coefficients by `sdmn`.
+pub fn sdmn(kind: Kind, record: &Record) -> [f64; 200] {
+    let (m, n) = (i32::from(record.m), i32::from(record.n));
+    unaltered::sdmn_places(m, n, record.c, record.cv, kind.sign())
+}
+
+/// The power coefficients by `sckb`, from expansion coefficients.
+pub fn sckb(record: &Record, df: &[f64]) -> [f64; 200] {
+    unaltered::sckb_places(i32::from(record.m), i32::from(record.n), record.c, df)
+}
+
 /// The next record of a stream, or the refusal that stops it; none at its end.
 pub fn next_record(stream: &mut &[u8]) -> Option<Result<Record, u8>> {
     let rest = *stream;
@@ -175,8 +186,8 @@ fn coefficient_lines(number: usize, record: &Record) -> String {
     }
     let (m, n) = (i32::from(record.m), i32::from(record.n));
     let Record { c, cv, .. } = *record;
-    let df = unaltered::sdmn_places(m, n, c, cv, request.kind().sign());
-    let ck = unaltered::sckb_places(m, n, c, &df);
+    let df = sdmn(request.kind(), record);
+    let ck = sckb(record, &df);
     let mut lines = format!("sdmn {number}{}\nsckb {number}{}\n", words(&df), words(&ck));
     if request == Request::Radial {
         let ck1 = unaltered::kmn_factor(m, n, c, cv, &df);

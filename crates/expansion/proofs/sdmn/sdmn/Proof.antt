@@ -1,5 +1,6 @@
 -- `expansion::sdmn::sdmn` meets its contract. Assumes nothing.
 use borrow.Author.Needs.{needs}
+use mathlib.Core.Path.{_∙_}
 use Rattle.expansion.specs.Sdmn as Sdmn
 use Rattle.expansion.specs.Sdmn.{recurrenceOf}
 use Rattle.expansion.proofs.sdmn.sdmn.Statement.{statement}
@@ -27,12 +28,18 @@ returns c = rw (c .before .if1 .taken, c .blank .ensures)
 sub-t17 : tie.Need-sub-t17
 sub-t17 c = search needs
 
+sub-terms : tie.Need-sub-terms
+sub-terms c = search needs
+
+terms-requires : tie.Need-terms-requires
+terms-requires c κs = search needs
+
 expand-requires : tie.Need-expand-requires
 expand-requires c κs = search needs
 
 returns-2 : tie.Need-returns-2
 unfolding Sdmn.sdmn recurrenceOf
-returns-2 c = rw (c .before .if1 .left) (c .expand .ensures)
+returns-2 c = rw (c .before .before .if1 .left) (c .expand .ensures ∙ rw (c .before .terms .ensures .0))
 
 pub sdmn-spec : {M : Type 1} → statement M
 sdmn-spec =
@@ -45,5 +52,7 @@ sdmn-spec =
     array-write-df
     returns
     sub-t17
+    sub-terms
+    terms-requires
     expand-requires
     returns-2)

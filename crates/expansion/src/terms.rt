@@ -1,0 +1,35 @@
+// How far the sums over expansion coefficients run.
+ghost use mathlib.Core.Path.{_≡_};
+ghost use mathlib.Core.Bool.{true, false};
+ghost use Prim.Native.Nat.{_<_};
+ghost use lib.Ieee.{lt};
+ghost use Rattle.arith.specs.Double.{#0};
+ghost use Rattle.expansion.specs.Terms as Terms;
+
+// Document 01's N for n - m and c.
+pub fn terms(offset: u32, c: f64) -> u32
+    requires { ⌜ (lt c #0 ≡ false) × (lt (Terms.halfSum offset c) Terms.#175 ≡ true) ⌝ }
+    ensures { λ r. ⌜ r ≡ Terms.termsOf offset c ⌝ }
+    ensures { λ r. ⌜ r < 200 ⌝ }
+{
+    25 + (arith::truncate((offset as f64) / 2.0 + c) as u32)
+}
+
+// c, or 1e-10 where c is not above it.
+fn clamped(c: f64) -> f64
+    ensures { λ r. ⌜ r ≡ Terms.clamped c ⌝ }
+{
+    if c <= 1e-10 {
+        return 1e-10;
+    }
+    c
+}
+
+// The N of `sckb`.
+pub fn power_terms(offset: u32, c: f64) -> u32
+    requires { ⌜ (offset < 200) × (lt c #0 ≡ false) × (lt (Terms.halfSum offset c) Terms.#175 ≡ true) ⌝ }
+    ensures { λ r. ⌜ r ≡ Terms.powerTermsOf offset c ⌝ }
+    ensures { λ r. ⌜ r < 200 ⌝ }
+{
+    terms(offset, clamped(c))
+}

@@ -1,0 +1,127 @@
+//! Holds the ported routines, linked as a static library, against the Rust original.
+
+#[allow(dead_code)]
+#[path = "../differential/generator.rs"]
+mod generator;
+#[allow(dead_code)]
+#[path = "../differential/known.rs"]
+mod known;
+#[allow(dead_code)]
+#[path = "../differential/random.rs"]
+mod random;
+#[path = "../differential/tally.rs"]
+mod tally;
+
+use std::process::ExitCode;
+
+use generator::Generator;
+use known::Input;
+use oracle::answer;
+use oracle::reading::coefficient_refusal;
+use oracle::record::{Kind, Record, Request, hex, same};
+use tally::Tally;
+
+const KNOWN_RECORDS: &str = "tests/oracle/traps.txt";
+const DEFAULT_MODES: usize = 20_000;
+const DEFAULT_SEED: u64 = 20_261_115;
+
+type Places = [f64; 200];
+
+unsafe extern "C" {
+    safe fn routines_sdmn(m: u32, n: u32, c: f64, cv: f64, kd: f64, df: &mut Places);
+    safe fn routines_sckb(df: &Places, m: u32, n: u32, c: f64, ck: &mut Places);
+}
+
+/// What every routine is held against, in the order in which the routines need each other.
+struct Tallies {
+    sdmn: Tally,
+    sckb: Tally,
+}
+
+fn main() -> ExitCode {
+    let words: Vec<String> = std::env::args().skip(1).collect();
+    let numbers: Option<Vec<u64>> = words.iter().map(|word| word.parse().ok()).collect();
+    let Some(numbers) = numbers.filter(|numbers| numbers.len() <= 2) else {
+        eprintln!("usage: routines [N] [SEED]");
+        return ExitCode::from(2);
+    };
+    let count = numbers.first().map_or(DEFAULT_MODES, |&count| count as usize);
+    let seed = numbers.get(1).copied().unwrap_or(DEFAULT_SEED);
+    println!("{count} modes of fresh records, seed {seed}, and those of {KNOWN_RECORDS}");
+    let mut tallies = Tallies {
+        sdmn: Tally::new("sdmn"),
+        sckb: Tally::new("sckb"),
+    };
+    let Ok(known) = known_records() else {
+        eprintln!("routines: {KNOWN_RECORDS} could not be read, so nothing was compared");
+        return ExitCode::from(2);
+    };
+    for record in &known {
+        if let Some(kind) = accepted(record) {
+            tallies.compare(kind, record);
+        }
+    }
+    let mut generator = Generator::new(seed);
+    let mut compared = 0;
+    while compared < count {
+        for record in generator.records(1000) {
+            if let Some(kind) = accepted(&record).filter(|_| compared < count) {
+                tallies.compare(kind, &record);
+                compared += 1;
+            }
+        }
+    }
+    tallies.report()
+}
+
+fn known_records() -> Result<Vec<Record>, String> {
+    let text = std::fs::read_to_string(KNOWN_RECORDS).map_err(|error| error.to_string())?;
+    let records = known::parse(&text)?.into_iter().filter_map(|known| match known.input {
+        Input::Record(record) => Some(record),
+        _ => None,
+    });
+    Ok(records.collect())
+}
+
+/// The kind of a mode whose coefficients document 01 hands out.
+fn accepted(record: &Record) -> Option<Kind> {
+    let request = Request::of_operation(record.operation).filter(|request| !request.is_row())?;
+    let refused = coefficient_refusal(record, request).is_some();
+    (!refused).then(|| request.kind())
+}
+
+impl Tallies {
+    fn compare(&mut self, kind: Kind, record: &Record) {
+        let (m, n) = (u32::from(record.m), u32::from(record.n));
+        let kd = f64::from(kind.sign());
+        let mut df = [0.0; 200];
+        routines_sdmn(m, n, record.c, record.cv, kd, &mut df);
+        compare_places(&mut self.sdmn, record, &df, &answer::sdmn(kind, record));
+        let mut ck = [0.0; 200];
+        routines_sckb(&df, m, n, record.c, &mut ck);
+        compare_places(&mut self.sckb, record, &ck, &answer::sckb(record, &df));
+    }
+
+    fn report(&self) -> ExitCode {
+        let all = [&self.sdmn, &self.sckb];
+        for tally in all {
+            tally.print();
+        }
+        for tally in all {
+            tally.print_failures();
+        }
+        let passed: usize = all.iter().map(|tally| tally.passed).sum();
+        let failed: usize = all.iter().map(|tally| tally.failed).sum();
+        println!("{passed} passed, {failed} failed");
+        if failed == 0 { ExitCode::SUCCESS } else { ExitCode::FAILURE }
+    }
+}
+
+/// One comparison is one call with all its places.
+fn compare_places(tally: &mut Tally, record: &Record, ours: &Places, theirs: &Places) {
+    let differs = (0..ours.len()).find(|&at| !same(ours[at], theirs[at]));
+    tally.count(differs.is_none(), || {
+        let at = differs.unwrap_or(0);
+        format!("{record}: place {at} ours {} Rust {}", hex(ours[at]), hex(theirs[at]))
+    });
+}
