@@ -1,1 +1,3 @@
+-- Lemmas of the proofs, then what the crates above may cite.
 pub mod Laws
+pub mod Lengths

@@ -1,26 +1,32 @@
 -- How the definitions of refusals and rows unfold, in the form in which the proofs of the code meet them. Assumes nothing.
-use Prim.Native.Nat.{ℕ, _+_, _-_, _≤_, _<_}
+use Prim.Native.Nat.{ℕ, suc, _+_, _-_, _≤_, _<_}
 use native.Mathlib.Omega.{arith}
+use native.Mathlib.Numerals.{add-one}
 use mathlib.Core.Path.{_≡_, refl, sym, ap, subst, _∙_}
 use mathlib.Core.Bool.{Bool, true, false, cond, _||_}
-use mathlib.Core.List.{List}
-use borrow.Author.Tests.{ltb-false, le-ltb, le-leb, lt-leb, ne-eqb}
+use mathlib.Core.List.{List, [], _∷_, _++_}
+use borrow.Author.Tests.{ltb-false, lt-ltb, le-ltb, le-leb, lt-leb, ne-eqb}
 use lib.Dec.{T, ltb}
 use lib.IntN.{ℤ, pos, natAbs}
 use lib.Ieee.{Float, nan, inf, fin, lt, eq, ne, div, ofBits}
 use lib.Ieee.Compare.{differs-from-itself}
-use lib.ListN.{length, replicate}
+use lib.ListN.{length, replicate, set, take, drop, take-append-drop}
+use lib.Seq.{take-all, take-suc, take-suc-set, drop-drop, drop-set-lt}
 use mir.Syntax.{w32}
 use mir.Val.{toZ, ofZ}
-use Rattle.arith.specs.Double.{_⊘_, _⊗_, dbl, #0, #1, #2, #1e-10}
+use Rattle.arith.specs.Double.{_⊘_, _⊗_, dbl, at, #0, #1, #2, #1e-10}
+use Rattle.arith.specs.Choice.{abs}
 use Rattle.arith.specs.Truncation.{truncate}
 use Rattle.arith.proofs.Flags.{not-left}
 use Rattle.arith.proofs.Laws.{truncate-sum-below, reads-back, half-unsigned}
+use Rattle.expansion.specs.Terms.{Usable, #175}
+use Rattle.expansion.specs.Sdmn.{sdmn}
 use Rattle.segv.specs.Families.{bothFamilies}
 use Rattle.segv.specs.Row.{Slices, slices, writtenRow, RowAnswer, answer, segvRow}
 use Rattle.modes.specs.declared.checking.Mode.{Mode}
 use Rattle.modes.specs.declared.checking.Kind.{Kind}
-use Rattle.modes.specs.Refusals.{outOfRange, noParameter, refusalOf, rowRefusal, hOf, entriesOf, #291, signOf}
+use Rattle.modes.specs.Refusals.{outOfRange, noParameter, refusalOf, rowRefusal, modeRefusal, hOf, entriesOf, #291, signOf, notFinite}
+use Rattle.modes.specs.Coefficients.{coefficientsOf}
 use Rattle.modes.specs.Rows.{zeroAt, rowIn, rowOf, tooShort, blankSlices, lessened, single, dlmfIn, dlmfOf}
 
 -- ---- refusal 5
@@ -46,6 +52,17 @@ unfolding noParameter
 not-negative nan h = not-left h
 not-negative (inf s) h = not-left h
 not-negative (fin s m e) h = h
+
+-- ---- refusal 7
+pub nan-not-finite : (x : Float) → ne x x ≡ true → true ≡ notFinite x
+unfolding notFinite
+nan-not-finite x h = sym (ap notFinite (differs-from-itself x (subst T (sym h) tt)))
+
+pub infinite-not-finite : (x a : Float) → ne x x ≡ false → a ≡ abs x → eq a (#1 ⊘ #0) ≡ notFinite x
+unfolding notFinite ne eq div ofBits abs
+infinite-not-finite nan a h e = not-left h
+infinite-not-finite (inf s) a h e = rw e
+infinite-not-finite (fin s m d) a h e = rw e
 
 -- ---- a mode that is not refused
 pub in-range : (x : Mode) → x .m ≤ 199 → x .m ≤ x .n → x .n - x .m ≤ 199 → outOfRange x ≡ false
@@ -75,12 +92,27 @@ h-whole : (x : Mode) → noParameter (x .c) ≡ false → lt (hOf x) #291 ≡ tr
 unfolding hOf ofBits
 h-whole x p l = truncate-sum-below (dbl (x .n - x .m) ⊘ #2) (x .c) #291 291 (half-unsigned (x .n - x .m)) (refl, refl) (omega arith) (omega arith) (not-negative (x .c) p) l
 
-passes : (x : Mode) → rowRefusal x ≡ 0 → (outOfRange x ≡ false) × (noParameter (x .c) ≡ false) × (lt (hOf x) #291 ≡ true)
+passes : (limit : Float) (x : Mode) → refusalOf limit x ≡ 0 → (outOfRange x ≡ false) × (noParameter (x .c) ≡ false) × (lt (hOf x) limit ≡ true)
 unfolding refusalOf
-passes x h = none-applies (outOfRange x) (noParameter (x .c)) (lt (hOf x) #291) h
+passes limit x h = none-applies (outOfRange x) (noParameter (x .c)) (lt (hOf x) limit) h
+
+ranges : (x : Mode) → outOfRange x ≡ false → (x .m ≤ 199) × (x .m ≤ x .n) × (x .n - x .m ≤ 199)
+unfolding outOfRange
+ranges x p =
+    let q = neither (ltb 199 (x .m) || ltb (x .n) (x .m)) (ltb 199 (x .n - x .m)) p in
+    let s = neither (ltb 199 (x .m)) (ltb (x .n) (x .m)) (q .0) in
+    (ltb-false 199 (x .m) (s .0), ltb-false (x .n) (x .m) (s .1), ltb-false 199 (x .n - x .m) (q .1))
+
+-- what the routines over coefficients ask
+pub usable : (x : Mode) → modeRefusal x ≡ 0 → Usable (x .m) (x .n) (x .c)
+unfolding hOf
+usable x h =
+    let p = passes #175 x h in
+    let r = ranges x (p .0) in
+    (omega (arith, r), omega (arith, r), omega (arith, r), not-negative (x .c) (p .1), p .2)
 
 pub whole-part : (x : Mode) → rowRefusal x ≡ 0 → (t : ℕ) × (truncate (hOf x) ≡ pos t) × (t < 291)
-whole-part x h = let p = passes x h in h-whole x (p .1) (p .2)
+whole-part x h = let p = passes #291 x h in h-whole x (p .1) (p .2)
 
 -- the whole part of H as the machine reads it back
 pub read-back : (x : Mode) (h : Float) (z : ℤ) → rowRefusal x ≡ 0 → h ≡ hOf x → z ≡ truncate h → (t : ℕ) × (toZ w32 (ofZ w32 z) ≡ pos t) × (t < 291) × (10 + t ≡ entriesOf x)
@@ -91,16 +123,15 @@ read-back x h z r hh hz =
     (k .0, reads-back z (k .0) e (omega (arith, k .2)), k .2, ap (λ (z : ℤ). 10 + natAbs z) (sym (k .1)))
 
 pub accepted : (x : Mode) → rowRefusal x ≡ 0 → Accepted x
-unfolding outOfRange entriesOf
+unfolding entriesOf
 accepted x h =
-    let p = passes x h in
-    let q = neither (ltb 199 (x .m) || ltb (x .n) (x .m)) (ltb 199 (x .n - x .m)) (p .0) in
-    let s = neither (ltb 199 (x .m)) (ltb (x .n) (x .m)) (q .0) in
+    let p = passes #291 x h in
+    let r = ranges x (p .0) in
     let k = whole-part x h in
     record {
-      order = ltb-false 199 (x .m) (s .0);
-      rising = ltb-false (x .n) (x .m) (s .1);
-      span = ltb-false 199 (x .n - x .m) (q .1);
+      order = r .0;
+      rising = r .1;
+      span = r .2;
       parameter = p .1;
       some = rw (k .1) (omega arith);
       few = rw (k .1) (omega (arith, k .2));
@@ -160,3 +191,40 @@ module _ (kind : Kind) (x : Mode) (allowance : ℕ) (xs : List Float) (k : ℕ) 
       pub dlmf-done : (ys : List Float) → a .number ≡ 0 → ys ≡ lessened (a .after .values) (x .c ⊗ x .c) (x .n - x .m + 1) xs → single 0 ys ≡ dlmfOf kind x allowance xs
       unfolding dlmfOf dlmfIn
       dlmf-done ys n e = rw (← h, z, lt-leb (length xs) (x .n - x .m) l, ← in-blank, n, e)
+
+-- ---- coefficients
+module _ (kind : Kind) (x : Mode) (cv : Float) (xs : List Float) (k : ℕ) (h : k ≡ modeRefusal x) where
+  pub coefficients-early : (k ≡ 0 → ⊥) → single k xs ≡ coefficientsOf kind x cv xs
+  unfolding coefficientsOf
+  coefficients-early n = rw (← h, ne-eqb k 0 n)
+
+  module _ (z : k ≡ 0) where
+    pub coefficients-value : notFinite cv ≡ true → single 7 xs ≡ coefficientsOf kind x cv xs
+    unfolding coefficientsOf
+    coefficients-value v = rw (← h, z, v)
+
+    module _ (v : notFinite cv ≡ false) where
+      pub coefficients-short : length xs < 200 → single 9 xs ≡ coefficientsOf kind x cv xs
+      unfolding coefficientsOf
+      coefficients-short l = rw (← h, z, v, lt-ltb (length xs) 200 l)
+
+      pub coefficients-done : (s : Float) (df ys : List Float) → 200 ≤ length xs → s ≡ signOf kind → df ≡ sdmn (x .m) (x .n) (x .c) cv s → ys ≡ df ++ drop 200 xs
+          → single 0 ys ≡ coefficientsOf kind x cv xs
+      unfolding coefficientsOf
+      coefficients-done s df ys l hs hd hy = rw (← h, z, v, le-ltb (length xs) 200 l, hy, hd, hs)
+
+-- ---- the copy of the coefficients
+drop-one : (l : List Float) (j : ℕ) → drop (suc j) l ≡ drop 1 (drop j l)
+drop-one l j = sym (drop-drop 1 j l ∙ ap (λ (n : ℕ). drop n l) (add-one j))
+
+-- one place more
+pub copied : (df out out₀ : List Float) (j : ℕ) → j < length df → j < length out → take j out ≡ take j df → drop j out ≡ drop j out₀
+    → (take (suc j) (set out j (at df j)) ≡ take (suc j) df) × (drop (suc j) (set out j (at df j)) ≡ drop (suc j) out₀)
+copied df out out₀ j p q t d = (
+  take-suc-set out j (at df j) q ∙ ap (λ (l : List Float). l ++ (at df j ∷ [])) t ∙ sym (take-suc df j nan p),
+  drop-set-lt (suc j) out j (at df j) (omega arith) ∙ drop-one out j ∙ ap (drop 1) d ∙ sym (drop-one out₀ j),
+)
+
+pub all-copied : (df out out₀ : List Float) (j : ℕ) → j ≡ 200 → length df ≡ 200 → take j out ≡ take j df → drop j out ≡ drop j out₀ → out ≡ df ++ drop 200 out₀
+all-copied df out out₀ j h l t d =
+    sym (take-append-drop 200 out) ∙ ap (λ (a : List Float). a ++ drop 200 out) (rw h at t ∙ take-all 200 df (omega arith)) ∙ ap (λ (b : List Float). df ++ b) (rw h at d)

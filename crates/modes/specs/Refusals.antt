@@ -1,11 +1,12 @@
 -- The refusals of a mode, in document 01's order. Definitions only.
 use Prim.Native.Nat.{ℕ, _+_, _-_}
-use mathlib.Core.Bool.{Bool, true, cond, _||_}
+use mathlib.Core.Bool.{Bool, true, false, cond, _||_}
 use lib.Dec.{ltb}
 use lib.IntN.{natAbs}
 use lib.Ieee.{Float, nan, inf, fin, lt, neg}
 use Rattle.arith.specs.Double.{_⊕_, _⊘_, dbl, bits, #0, #1, #2}
 use Rattle.arith.specs.Truncation.{truncate}
+use Rattle.expansion.specs.Terms.{#175}
 use Rattle.modes.specs.declared.checking.Kind.{Kind}
 use Rattle.modes.specs.declared.checking.Kind.the-variants.{Prolate, Oblate}
 use Rattle.modes.specs.declared.checking.Mode.{Mode}
@@ -23,12 +24,9 @@ hOf x = dbl (x .n - x .m) ⊘ #2 ⊕ x .c
 unfoldable pub entriesOf : Mode → ℕ
 entriesOf x = 10 + natAbs (truncate (hOf x))
 
--- ---- the limits 291 and 175
+-- ---- the limit 291; 175 is `expansion`'s
 abbrev pub #291 : Float
 #291 = bits 0x4072_3000_0000_0000
-
-abbrev pub #175 : Float
-#175 = bits 0x4065_e000_0000_0000
 
 -- ---- 4: m > 199, n < m, or n − m > 199
 unfoldable pub outOfRange : Mode → Bool
@@ -49,3 +47,9 @@ rowRefusal x = refusalOf #291 x
 
 abbrev pub modeRefusal : Mode → ℕ
 modeRefusal x = refusalOf #175 x
+
+-- ---- 7: cv is NaN or infinite
+unfoldable pub notFinite : Float → Bool
+notFinite nan = true
+notFinite (inf s) = true
+notFinite (fin s m e) = false

@@ -38,6 +38,16 @@ fn no_parameter(c: f64) -> bool
     c == 1.0 / 0.0
 }
 
+// Whether x is NaN or infinite.
+pub(crate) fn not_finite(x: f64) -> bool
+    ensures { λ r. ⌜ r ≡ Refusals.notFinite x ⌝ }
+{
+    if x != x {
+        return true;
+    }
+    arith::abs(x) == 1.0 / 0.0
+}
+
 impl Mode {
     // The largest m, and the largest n - m.
     pub const LARGEST: u16 = 199;

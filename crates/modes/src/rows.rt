@@ -16,7 +16,7 @@ pub enum RowAnswer {
     Refused(u8),
 }
 
-fn row_answer(number: u8) -> RowAnswer
+pub(crate) fn row_answer(number: u8) -> RowAnswer
     ensures { λ r. ⌜ r ≡ given number ⌝ }
 {
     if number == 0 {
