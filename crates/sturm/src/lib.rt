@@ -8,4 +8,5 @@ pub use entries::blank;
 pub use entries::fill;
 pub use gershgorin_bounds::Bounds;
 pub use gershgorin_bounds::gershgorin;
+pub use pivots::Counts;
 pub use pivots::negative_pivots;
