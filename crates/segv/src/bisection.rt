@@ -1,6 +1,8 @@
 // The bisection of one place.
 ghost use mathlib.Core.Path.{_≡_};
+ghost use mathlib.Core.Bool.{cond};
 ghost use Prim.Native.Nat.{_<_, _≤_};
+ghost use lib.Dec.{ltb};
 ghost use Rattle.segv.specs.Bisection as Bisection;
 ghost use Rattle.segv.specs.Bisection.{ends};
 
@@ -60,18 +62,23 @@ impl Bracket {
     }
 }
 
-// What a count at x says of the other places' brackets.
+// What a count at x says of the other places' brackets: nothing where x became this place's lower
+// end.
 fn tighten_others(
     uppers: &mut [f64; 100],
     lowers: &mut [f64; 100],
     count: usize,
+    place: usize,
     places: usize,
     x: f64,
 )
-    requires { ⌜ (0 < count) × (0 < places) × (places ≤ 100) ⌝ }
-    ensures { λ _. ⌜ now (uppers .exit) ≡ Bisection.tightenOthers places count x (ends (now (uppers .entry)) (now (lowers .entry))) .uppers ⌝ }
-    ensures { λ _. ⌜ now (lowers .exit) ≡ Bisection.tightenOthers places count x (ends (now (uppers .entry)) (now (lowers .entry))) .lowers ⌝ }
+    requires { ⌜ (0 < place) × (place ≤ places) × (places ≤ 100) ⌝ }
+    ensures { λ _. ⌜ now (uppers .exit) ≡ Bisection.tightenAll places place count x (ends (now (uppers .entry)) (now (lowers .entry))) .uppers ⌝ }
+    ensures { λ _. ⌜ now (lowers .exit) ≡ Bisection.tightenAll places place count x (ends (now (uppers .entry)) (now (lowers .entry))) .lowers ⌝ }
 {
+    if count < place {
+        return;
+    }
     if places <= count {
         uppers[places - 1] = x;
         return;
@@ -83,7 +90,19 @@ fn tighten_others(
     uppers[at] = dropped;
 }
 
-// The allowance falls by one at each midpoint.
+// The count at the midpoint of the half that the count at x leaves: y lies in the lower half and z
+// in the upper.
+fn next_count(counts: sturm::Counts, place: usize) -> usize
+    ensures { λ r. ⌜ r ≡ cond (ltb (counts .x) place) (counts .z) (counts .y) ⌝ }
+{
+    if counts.x < place {
+        return counts.z;
+    }
+    counts.y
+}
+
+// The allowance falls by one at each midpoint. A turn takes two steps: the midpoint after the next
+// is one of two, and counting at all three in one pass takes little longer than counting at one.
 pub(crate) fn bisect(
     d: &[f64; 300],
     f: &[f64; 300],
@@ -101,17 +120,28 @@ pub(crate) fn bisect(
     let mut r = start;
     let mut left = allowance;
     while 0 < left {
-        left = left - 1;
         r = r.with_midpoint();
         if r.converged() {
             return Search::Converged(r);
         }
         let x = r.value;
-        let count = sturm::negative_pivots(d, f, entries, x);
-        r = r.tightened(count, place);
-        if place <= count {
-            tighten_others(uppers, lowers, count, places, x);
+        let y = (x + r.lower) / 2.0;
+        let z = (r.upper + x) / 2.0;
+        let counts = sturm::negative_pivots(d, f, entries, x, y, z);
+        r = r.tightened(counts.x, place);
+        tighten_others(uppers, lowers, counts.x, place, places, x);
+        if left < 2 {
+            return Search::OutOfSteps;
         }
+        r = r.with_midpoint();
+        if r.converged() {
+            return Search::Converged(r);
+        }
+        let next = r.value;
+        let count = next_count(counts, place);
+        r = r.tightened(count, place);
+        tighten_others(uppers, lowers, count, place, places, next);
+        left = left - 2;
     }
     Search::OutOfSteps
 }
