@@ -1,14 +1,12 @@
 -- How the definitions of the bisection unfold, in the form in which the proofs of the code meet them.
 use Prim.Native.Nat.{ℕ, suc, _+_, _-_, _/_, _≤_, _<_}
 use mathlib.Core.Path.{_≡_, refl, sym, ap}
-use mathlib.Core.Bool.{Bool, true, false, cond}
+use mathlib.Core.Bool.{Bool, true, false}
 use mathlib.Core.List.{List}
 use native.Mathlib.Omega.{arith}
-use lib.Dec.{ltb}
 use lib.ListN.{set, replicate}
 use Rattle.sturm.specs.declared.gershgorin_bounds.Bounds.{Bounds}
 use lib.Ieee.{Float}
-use Rattle.arith.specs.Double.{_⊕_, _⊘_, #2}
 use Rattle.segv.specs.declared.bisection.Bracket.{Bracket}
 use Rattle.segv.specs.declared.bisection.Search.{Search}
 use Rattle.segv.specs.declared.bisection.Search.the-variants.{Converged, OutOfSteps}
@@ -28,17 +26,6 @@ steps-on j number r h t hh ht = rw (ht, hh)
 pub tightened : (places number j : ℕ) (x : Float) (s : Ends) (us ls : List Float) → us ≡ tightenAll places number j x s .uppers → ls ≡ tightenAll places number j x s .lowers
     → ends us ls ≡ tightenAll places number j x s
 tightened places number j x s us ls hu hl = rw (hu, hl)
-
--- the midpoint after h is that of the half that the count at h leaves, so the count at it is known once both are
-pub next-counted : (ds fs : List Float) (entries number j y z k : ℕ) (h t n : Bracket)
-    → y ≡ negativePivots ds fs entries ((h .value ⊕ h .lower) ⊘ #2) → z ≡ negativePivots ds fs entries ((h .upper ⊕ h .value) ⊘ #2)
-    → t ≡ tighten j number h → n ≡ withMidpoint t → k ≡ cond (ltb j number) z y → k ≡ negativePivots ds fs entries (n .value)
-unfolding tighten withMidpoint
-next-counted ds fs entries number j y z k h t n hy hz ht hn hk = rw (hn, ht, hk) (go (ltb j number))
-  where
-    go : (b : Bool) → cond b z y ≡ negativePivots ds fs entries ((cond b (h .upper) (h .value) ⊕ cond b (h .value) (h .lower)) ⊘ #2)
-    go true = hz
-    go false = hy
 
 module _ (ds fs : List Float) (entries places number : ℕ) where
   pub out-of-steps : (r : Bracket) (s : Ends) → bisection ds fs entries places number 0 r s ≡ record { found = OutOfSteps; ends = s }

@@ -1,10 +1,11 @@
 // The bisection of one place.
 ghost use mathlib.Core.Path.{_≡_};
-ghost use mathlib.Core.Bool.{cond};
 ghost use Prim.Native.Nat.{_<_, _≤_};
-ghost use lib.Dec.{ltb};
 ghost use Rattle.segv.specs.Bisection as Bisection;
 ghost use Rattle.segv.specs.Bisection.{ends};
+ghost use Rattle.segv.specs.Ahead.{midpointsAhead, countsAfter};
+ghost use Rattle.sturm.specs.Pivots.{negativePivots};
+ghost use Rattle.sturm.specs.SevenShifts.{countsAt};
 
 // A characteristic value with its bracket and its step number.
 pub struct Bracket {
@@ -90,19 +91,55 @@ fn tighten_others(
     uppers[at] = dropped;
 }
 
-// The count at the midpoint of the half that the count at x leaves: y lies in the lower half and z
-// in the upper.
-fn next_count(counts: sturm::Counts, place: usize) -> usize
-    ensures { λ r. ⌜ r ≡ cond (ltb (counts .x) place) (counts .z) (counts .y) ⌝ }
+// The counts at the midpoint of r, which is its value, at the two midpoints that the next step may
+// come to, l in the lower half and h in the upper, and at the four of the step after.
+fn counts_ahead(d: &[f64; 300], f: &[f64; 300], entries: usize, r: Bracket) -> sturm::Counts
+    requires { ⌜ entries ≤ 300 ⌝ }
+    ensures { λ k. ⌜ k ≡ countsAt (negativePivots (now (d .entry)) (now (f .entry)) entries) (midpointsAhead r) ⌝ }
 {
-    if counts.x < place {
-        return counts.z;
-    }
-    counts.y
+    let x = r.value;
+    let l = (x + r.lower) / 2.0;
+    let h = (r.upper + x) / 2.0;
+    let midpoints = sturm::Seven {
+        x,
+        l,
+        h,
+        ll: (l + r.lower) / 2.0,
+        lh: (x + l) / 2.0,
+        hl: (h + x) / 2.0,
+        hh: (r.upper + h) / 2.0,
+    };
+    sturm::negative_pivots(d, f, entries, midpoints)
 }
 
-// The allowance falls by one at each midpoint. A turn takes two steps: the midpoint after the next
-// is one of two, and counting at all three in one pass takes little longer than counting at one.
+// The counts that are left after a step: those of the half that the count at x leaves.
+fn counts_after(counts: sturm::Counts, place: usize) -> sturm::Counts
+    ensures { λ r. ⌜ r ≡ countsAfter place counts ⌝ }
+{
+    if counts.x < place {
+        return sturm::Counts {
+            x: counts.h,
+            l: counts.hl,
+            h: counts.hh,
+            ll: 0,
+            lh: 0,
+            hl: 0,
+            hh: 0,
+        };
+    }
+    sturm::Counts {
+        x: counts.l,
+        l: counts.ll,
+        h: counts.lh,
+        ll: 0,
+        lh: 0,
+        hl: 0,
+        hh: 0,
+    }
+}
+
+// The allowance falls by one at each midpoint. A step's count is not known before the step, but its
+// midpoint is one of few: one pass counts for three steps, and takes little longer than for one.
 pub(crate) fn bisect(
     d: &[f64; 300],
     f: &[f64; 300],
@@ -119,29 +156,33 @@ pub(crate) fn bisect(
 {
     let mut r = start;
     let mut left = allowance;
+    let mut counts = sturm::Counts {
+        x: 0,
+        l: 0,
+        h: 0,
+        ll: 0,
+        lh: 0,
+        hl: 0,
+        hh: 0,
+    };
+    // for how many steps the counts are known
+    let mut known: u32 = 0;
     while 0 < left {
+        left = left - 1;
         r = r.with_midpoint();
         if r.converged() {
             return Search::Converged(r);
+        }
+        if known == 0 {
+            counts = counts_ahead(d, f, entries, r);
+            known = 3;
         }
         let x = r.value;
-        let y = (x + r.lower) / 2.0;
-        let z = (r.upper + x) / 2.0;
-        let counts = sturm::negative_pivots(d, f, entries, x, y, z);
-        r = r.tightened(counts.x, place);
-        tighten_others(uppers, lowers, counts.x, place, places, x);
-        if left < 2 {
-            return Search::OutOfSteps;
-        }
-        r = r.with_midpoint();
-        if r.converged() {
-            return Search::Converged(r);
-        }
-        let next = r.value;
-        let count = next_count(counts, place);
+        let count = counts.x;
         r = r.tightened(count, place);
-        tighten_others(uppers, lowers, count, place, places, next);
-        left = left - 2;
+        tighten_others(uppers, lowers, count, place, places, x);
+        counts = counts_after(counts, place);
+        known = known - 1;
     }
     Search::OutOfSteps
 }

@@ -1,17 +1,35 @@
 // The Sturm count: how many characteristic values of the matrix lie below a shift, by the signs of
-// its pivots.
+// its pivots. Each pivot waits for the division before it, so the counts at seven shifts are taken in
+// one loop, where seven divisions are under way at a time.
 ghost use mathlib.Core.Path.{_≡_};
-ghost use mathlib.Core.Bool.{cond, _||_};
+ghost use mathlib.Core.Bool.{cond};
 ghost use Prim.Native.Nat.{_+_, _<_, _≤_};
-ghost use lib.Ieee.{eq, lt};
+ghost use lib.Ieee.{lt};
 ghost use Rattle.arith.specs.Double.{#0};
 ghost use Rattle.sturm.specs.Pivots.{substituted, negativePivots};
+ghost use Rattle.sturm.specs.SevenShifts.{each, nextPivots, countsAt, Few, countedOn};
 
-// The counts at three shifts.
+// One double for each of seven shifts: x, l and h below and above it, then one below and one above
+// each of those.
+pub struct Seven {
+    pub x: f64,
+    pub l: f64,
+    pub h: f64,
+    pub ll: f64,
+    pub lh: f64,
+    pub hl: f64,
+    pub hh: f64,
+}
+
+// One count for each of the seven.
 pub struct Counts {
     pub x: usize,
-    pub y: usize,
-    pub z: usize,
+    pub l: usize,
+    pub h: usize,
+    pub ll: usize,
+    pub lh: usize,
+    pub hl: usize,
+    pub hh: usize,
 }
 
 // A zero pivot would be divided by, so 1e-30 stands in for it.
@@ -24,18 +42,6 @@ fn divisor(s: f64) -> f64
     s
 }
 
-fn any_zero(s: f64, t: f64, u: f64) -> bool
-    ensures { λ r. ⌜ r ≡ (eq s #0 || eq t #0 || eq u #0) ⌝ }
-{
-    if s == 0.0 {
-        return true;
-    }
-    if t == 0.0 {
-        return true;
-    }
-    u == 0.0
-}
-
 fn counted(negative: usize, s: f64) -> usize
     requires { ⌜ negative < 300 ⌝ }
     ensures { λ r. ⌜ r ≡ cond (lt s #0) (negative + 1) negative ⌝ }
@@ -46,46 +52,111 @@ fn counted(negative: usize, s: f64) -> usize
     negative
 }
 
-// How many pivots of the first `entries` entries, shifted by x, by y and by z, are below zero. Each
-// pivot waits for the division before it; three chains in one loop wait together. One test for all
-// three keeps the substitute, which is rarely needed, out of the chains.
-pub fn negative_pivots(
-    d: &[f64; 300],
-    f: &[f64; 300],
-    entries: usize,
-    x: f64,
-    y: f64,
-    z: f64,
-) -> Counts
+impl Seven {
+    fn substituted(self) -> Seven
+        ensures { λ r. ⌜ r ≡ each substituted self ⌝ }
+    {
+        Seven {
+            x: divisor(self.x),
+            l: divisor(self.l),
+            h: divisor(self.h),
+            ll: divisor(self.ll),
+            lh: divisor(self.lh),
+            hl: divisor(self.hl),
+            hh: divisor(self.hh),
+        }
+    }
+
+    // What is divided by. The branches keep the substitute, which is rarely needed, from delaying
+    // every division.
+    fn divisors(self) -> Seven
+        ensures { λ r. ⌜ r ≡ each substituted self ⌝ }
+    {
+        if self.x == 0.0 {
+            return self.substituted();
+        }
+        if self.l == 0.0 {
+            return self.substituted();
+        }
+        if self.h == 0.0 {
+            return self.substituted();
+        }
+        if self.ll == 0.0 {
+            return self.substituted();
+        }
+        if self.lh == 0.0 {
+            return self.substituted();
+        }
+        if self.hl == 0.0 {
+            return self.substituted();
+        }
+        if self.hh == 0.0 {
+            return self.substituted();
+        }
+        self
+    }
+
+    // The pivots after these divisors, at the entry d with f beside it.
+    fn next(self, d: f64, f: f64, shifts: Seven) -> Seven
+        ensures { λ r. ⌜ r ≡ nextPivots d f shifts self ⌝ }
+    {
+        Seven {
+            x: (d - f / self.x) - shifts.x,
+            l: (d - f / self.l) - shifts.l,
+            h: (d - f / self.h) - shifts.h,
+            ll: (d - f / self.ll) - shifts.ll,
+            lh: (d - f / self.lh) - shifts.lh,
+            hl: (d - f / self.hl) - shifts.hl,
+            hh: (d - f / self.hh) - shifts.hh,
+        }
+    }
+}
+
+impl Counts {
+    fn counted(self, s: Seven) -> Counts
+        requires { ⌜ Few 300 self ⌝ }
+        ensures { λ r. ⌜ r ≡ countedOn s self ⌝ }
+    {
+        Counts {
+            x: counted(self.x, s.x),
+            l: counted(self.l, s.l),
+            h: counted(self.h, s.h),
+            ll: counted(self.ll, s.ll),
+            lh: counted(self.lh, s.lh),
+            hl: counted(self.hl, s.hl),
+            hh: counted(self.hh, s.hh),
+        }
+    }
+}
+
+// How many pivots of the first `entries` entries are below zero, at each shift.
+pub fn negative_pivots(d: &[f64; 300], f: &[f64; 300], entries: usize, shifts: Seven) -> Counts
     requires { ⌜ entries ≤ 300 ⌝ }
-    ensures { λ r. ⌜ r .x ≡ negativePivots (now (d .entry)) (now (f .entry)) entries x ⌝ }
-    ensures { λ r. ⌜ r .y ≡ negativePivots (now (d .entry)) (now (f .entry)) entries y ⌝ }
-    ensures { λ r. ⌜ r .z ≡ negativePivots (now (d .entry)) (now (f .entry)) entries z ⌝ }
+    ensures { λ r. ⌜ r ≡ countsAt (negativePivots (now (d .entry)) (now (f .entry)) entries) shifts ⌝ }
 {
-    let mut at_x: usize = 0;
-    let mut at_y: usize = 0;
-    let mut at_z: usize = 0;
-    let mut s: f64 = 1.0;
-    let mut t: f64 = 1.0;
-    let mut u: f64 = 1.0;
+    let mut s = Seven {
+        x: 1.0,
+        l: 1.0,
+        h: 1.0,
+        ll: 1.0,
+        lh: 1.0,
+        hl: 1.0,
+        hh: 1.0,
+    };
+    let mut counts = Counts {
+        x: 0,
+        l: 0,
+        h: 0,
+        ll: 0,
+        lh: 0,
+        hl: 0,
+        hh: 0,
+    };
     let mut i: usize = 0;
     while i < entries {
-        if any_zero(s, t, u) {
-            s = divisor(s);
-            t = divisor(t);
-            u = divisor(u);
-        }
-        s = (d[i] - f[i] / s) - x;
-        t = (d[i] - f[i] / t) - y;
-        u = (d[i] - f[i] / u) - z;
-        at_x = counted(at_x, s);
-        at_y = counted(at_y, t);
-        at_z = counted(at_z, u);
+        s = s.divisors().next(d[i], f[i], shifts);
+        counts = counts.counted(s);
         i = i + 1;
     }
-    Counts {
-        x: at_x,
-        y: at_y,
-        z: at_z,
-    }
+    counts
 }
