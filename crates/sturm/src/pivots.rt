@@ -2,7 +2,7 @@
 // its pivots. Each pivot waits for the division before it, so the counts at seven shifts are taken in
 // one loop, where seven divisions are under way at a time.
 ghost use mathlib.Core.Path.{_≡_};
-ghost use mathlib.Core.Bool.{cond};
+ghost use mathlib.Core.Bool.{false, cond};
 ghost use Prim.Native.Nat.{_+_, _<_, _≤_};
 ghost use lib.Ieee.{lt};
 ghost use Rattle.arith.specs.Double.{#0};
@@ -53,45 +53,45 @@ fn counted(negative: usize, s: f64) -> usize
 }
 
 impl Seven {
-    fn substituted(self) -> Seven
-        ensures { λ r. ⌜ r ≡ each substituted self ⌝ }
+    fn any_zero(self) -> bool
+        ensures { λ r. ⌜ (r ≡ false → self ≡ each substituted self) ⌝ }
     {
-        Seven {
-            x: divisor(self.x),
-            l: divisor(self.l),
-            h: divisor(self.h),
-            ll: divisor(self.ll),
-            lh: divisor(self.lh),
-            hl: divisor(self.hl),
-            hh: divisor(self.hh),
+        if self.x == 0.0 {
+            return true;
         }
+        if self.l == 0.0 {
+            return true;
+        }
+        if self.h == 0.0 {
+            return true;
+        }
+        if self.ll == 0.0 {
+            return true;
+        }
+        if self.lh == 0.0 {
+            return true;
+        }
+        if self.hl == 0.0 {
+            return true;
+        }
+        self.hh == 0.0
     }
 
-    // What is divided by. The branches keep the substitute, which is rarely needed, from delaying
-    // every division.
+    // What is divided by. One branch for all seven keeps the substitute, which is rarely needed,
+    // from delaying every division.
     fn divisors(self) -> Seven
         ensures { λ r. ⌜ r ≡ each substituted self ⌝ }
     {
-        if self.x == 0.0 {
-            return self.substituted();
-        }
-        if self.l == 0.0 {
-            return self.substituted();
-        }
-        if self.h == 0.0 {
-            return self.substituted();
-        }
-        if self.ll == 0.0 {
-            return self.substituted();
-        }
-        if self.lh == 0.0 {
-            return self.substituted();
-        }
-        if self.hl == 0.0 {
-            return self.substituted();
-        }
-        if self.hh == 0.0 {
-            return self.substituted();
+        if self.any_zero() {
+            return Seven {
+                x: divisor(self.x),
+                l: divisor(self.l),
+                h: divisor(self.h),
+                ll: divisor(self.ll),
+                lh: divisor(self.lh),
+                hl: divisor(self.hl),
+                hh: divisor(self.hh),
+            };
         }
         self
     }
