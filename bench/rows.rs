@@ -1,6 +1,6 @@
 // Times whole rows beside the Rust original's `segv`, after a check that the values are equal bit for
 // bit. First the proved library's row, both sides in turn in one process; then the proved program on
-// a stream of one record many times over, whose time has its reading and printing in it.
+// a stream of records, whose time has its reading and printing in it.
 use std::fs::File;
 use std::hint::black_box;
 use std::process::{Command, Stdio};
@@ -66,7 +66,7 @@ struct Row {
     m: u16,
     n: u16,
     c: f64,
-    /// Calls in one round.
+    /// Calls in one round, each with another c.
     times: usize,
 }
 
@@ -95,12 +95,18 @@ impl Row {
         format!("{kind} m {} n {} c {}", self.m, self.n, self.c)
     }
 
-    fn rust(&self) -> Vec<f64> {
-        segv(self.kind, self.m, black_box(self.n), black_box(self.c))
+    /// The c of a round's call. With one c for all, the processor's branch prediction would learn the
+    /// steps of a small row by heart, which no caller's rows would let it.
+    fn parameter(&self, call: usize) -> f64 {
+        self.c * (1.0 + call as f64 * 1e-6)
+    }
+
+    fn rust(&self, c: f64) -> Vec<f64> {
+        segv(self.kind, self.m, black_box(self.n), black_box(c))
     }
 
     /// The library's row, with its slices made anew as `segv`'s are.
-    fn proved(&self) -> Vec<f64> {
+    fn proved(&self, c: f64) -> Vec<f64> {
         let function: ProvedRow = match self.kind {
             Kind::Prolate => spheroidal_prolate_row,
             Kind::Oblate => spheroidal_oblate_row,
@@ -112,7 +118,7 @@ impl Row {
             function(
                 self.m,
                 black_box(self.n),
-                black_box(self.c),
+                black_box(c),
                 ALLOWANCE,
                 values.as_mut_ptr(),
                 values.len(),
@@ -129,15 +135,15 @@ impl Row {
         values
     }
 
-    fn seconds(&self, side: fn(&Row) -> Vec<f64>, times: usize) -> f64 {
+    fn seconds(&self, side: fn(&Row, f64) -> Vec<f64>, times: usize) -> f64 {
         let start = Instant::now();
-        for _ in 0..times {
-            black_box(side(self));
+        for call in 0..times {
+            black_box(side(self, self.parameter(call)));
         }
         start.elapsed().as_secs_f64()
     }
 
-    fn record(&self) -> Record {
+    fn record(&self, call: usize) -> Record {
         Record {
             operation: match self.kind {
                 Kind::Prolate => 1,
@@ -146,7 +152,7 @@ impl Row {
             m: self.m,
             n: self.n,
             allowance: ALLOWANCE,
-            c: self.c,
+            c: self.parameter(call),
             cv: 0.0,
             x: 0.0,
         }
@@ -198,7 +204,10 @@ fn program_seconds() -> f64 {
 fn program(row: &Row) {
     // enough records that a process's start hardly shows
     let times = row.times * 10;
-    std::fs::write(STREAM, row.record().to_bytes().repeat(times)).expect("target/bench is there");
+    let stream: Vec<u8> = (0..times)
+        .flat_map(|call| row.record(call).to_bytes())
+        .collect();
+    std::fs::write(STREAM, stream).expect("target/bench is there");
     let (mut ours, mut theirs) = (f64::INFINITY, f64::INFINITY);
     for _ in 0..PROGRAM_ROUNDS {
         ours = ours.min(program_seconds());
@@ -215,7 +224,11 @@ fn program(row: &Row) {
 
 fn main() {
     for row in &ROWS {
-        assert_eq!(bits(row.proved()), bits(row.rust()), "{}", row.name());
+        for call in 0..row.times {
+            let c = row.parameter(call);
+            let name = row.name();
+            assert_eq!(bits(row.proved(c)), bits(row.rust(c)), "{name}");
+        }
     }
     ROWS.iter().for_each(library);
     ROWS.iter().for_each(program);
