@@ -9,8 +9,9 @@ ghost use Rattle.arith.specs.Double.{#0};
 ghost use Rattle.sturm.specs.Pivots.{substituted, negativePivots};
 ghost use Rattle.sturm.specs.SevenShifts.{each, nextPivots, countsAt, Few, countedOn};
 
-// One double for each of seven shifts: x, l and h below and above it, then one below and one above
-// each of those.
+// A double for each of seven shifts, named as a bisection needs them: x for a midpoint, l and h for
+// those of its lower and its upper half, ll to hh for those of its quarters. Nothing here depends on
+// their order.
 pub struct Seven {
     pub x: f64,
     pub l: f64,
@@ -21,7 +22,7 @@ pub struct Seven {
     pub hh: f64,
 }
 
-// One count for each of the seven.
+// A count for each of them.
 pub struct Counts {
     pub x: usize,
     pub l: usize,
@@ -53,6 +54,7 @@ fn counted(negative: usize, s: f64) -> usize
 }
 
 impl Seven {
+    // Whether a pivot is zero: if none is, none has to be substituted.
     fn any_zero(self) -> bool
         ensures { λ r. ⌜ (r ≡ false → self ≡ each substituted self) ⌝ }
     {
