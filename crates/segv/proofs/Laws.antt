@@ -4,7 +4,6 @@ use mathlib.Core.Path.{_≡_, refl, sym, ap}
 use mathlib.Core.Bool.{Bool, true, false}
 use mathlib.Core.List.{List}
 use native.Mathlib.Omega.{arith}
-use borrow.Author.Tests.{le-leb, lt-leb}
 use lib.ListN.{set, replicate}
 use Rattle.sturm.specs.declared.gershgorin_bounds.Bounds.{Bounds}
 use lib.Ieee.{Float}
@@ -15,7 +14,7 @@ use Rattle.segv.specs.declared.families.Family.{Family}
 use Rattle.sturm.specs.Pivots.{negativePivots}
 use Rattle.sturm.specs.Bounds.{boundsOf}
 use Rattle.sturm.specs.Entries.{diagonal, offDiagonal, squares}
-use Rattle.segv.specs.Bisection.{Ends, ends, Bisected, bisection, withMidpoint, converged, tighten, tightenAll, tightenOthers}
+use Rattle.segv.specs.Bisection.{Ends, ends, Bisected, bisection, withMidpoint, converged, tighten, tightenAll}
 use Rattle.segv.specs.Families.{openedAt, familyFrom, bisectedFamily, blankBracket, familyOf, Families, bothFamilies, eitherStopped}
 use Rattle.segv.specs.Row.{families, modeAt, Slices, writtenRow, answer, segvRow}
 
@@ -24,15 +23,9 @@ pub steps-on : (j number : ℕ) (r h t : Bracket) → h ≡ withMidpoint r → t
 unfolding withMidpoint tighten
 steps-on j number r h t hh ht = rw (ht, hh)
 
-module _ (places number : ℕ) where
-  pub tightened : (j : ℕ) (x : Float) (s : Ends) (us ls : List Float) → number ≤ j → us ≡ tightenOthers places j x s .uppers → ls ≡ tightenOthers places j x s .lowers
-      → ends us ls ≡ tightenAll places number j x s
-  unfolding tightenAll
-  tightened j x s us ls h hu hl = rw (le-leb number j h, hu, hl)
-
-  pub kept : (j : ℕ) (x : Float) (s : Ends) → j < number → s ≡ tightenAll places number j x s
-  unfolding tightenAll
-  kept j x s h = rw (lt-leb number j h)
+pub tightened : (places number j : ℕ) (x : Float) (s : Ends) (us ls : List Float) → us ≡ tightenAll places number j x s .uppers → ls ≡ tightenAll places number j x s .lowers
+    → ends us ls ≡ tightenAll places number j x s
+tightened places number j x s us ls hu hl = rw (hu, hl)
 
 module _ (ds fs : List Float) (entries places number : ℕ) where
   pub out-of-steps : (r : Bracket) (s : Ends) → bisection ds fs entries places number 0 r s ≡ record { found = OutOfSteps; ends = s }

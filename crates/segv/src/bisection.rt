@@ -3,6 +3,9 @@ ghost use mathlib.Core.Path.{_≡_};
 ghost use Prim.Native.Nat.{_<_, _≤_};
 ghost use Rattle.segv.specs.Bisection as Bisection;
 ghost use Rattle.segv.specs.Bisection.{ends};
+ghost use Rattle.segv.specs.Ahead.{midpointsAhead, countsAfter};
+ghost use Rattle.sturm.specs.Pivots.{negativePivots};
+ghost use Rattle.sturm.specs.SevenShifts.{countsAt};
 
 // A characteristic value with its bracket and its step number.
 pub struct Bracket {
@@ -60,18 +63,23 @@ impl Bracket {
     }
 }
 
-// What a count at x says of the other places' brackets.
+// What a count at x says of the other places' brackets: nothing where x became this place's lower
+// end.
 fn tighten_others(
     uppers: &mut [f64; 100],
     lowers: &mut [f64; 100],
     count: usize,
+    place: usize,
     places: usize,
     x: f64,
 )
-    requires { ⌜ (0 < count) × (0 < places) × (places ≤ 100) ⌝ }
-    ensures { λ _. ⌜ now (uppers .exit) ≡ Bisection.tightenOthers places count x (ends (now (uppers .entry)) (now (lowers .entry))) .uppers ⌝ }
-    ensures { λ _. ⌜ now (lowers .exit) ≡ Bisection.tightenOthers places count x (ends (now (uppers .entry)) (now (lowers .entry))) .lowers ⌝ }
+    requires { ⌜ (0 < place) × (place ≤ places) × (places ≤ 100) ⌝ }
+    ensures { λ _. ⌜ now (uppers .exit) ≡ Bisection.tightenAll places place count x (ends (now (uppers .entry)) (now (lowers .entry))) .uppers ⌝ }
+    ensures { λ _. ⌜ now (lowers .exit) ≡ Bisection.tightenAll places place count x (ends (now (uppers .entry)) (now (lowers .entry))) .lowers ⌝ }
 {
+    if count < place {
+        return;
+    }
     if places <= count {
         uppers[places - 1] = x;
         return;
@@ -83,7 +91,55 @@ fn tighten_others(
     uppers[at] = dropped;
 }
 
-// The allowance falls by one at each midpoint.
+// The counts at the midpoint of r, which is its value, at the two midpoints that the next step may
+// come to, l in the lower half and h in the upper, and at the four of the step after.
+fn counts_ahead(d: &[f64; 300], f: &[f64; 300], entries: usize, r: Bracket) -> sturm::Counts
+    requires { ⌜ entries ≤ 300 ⌝ }
+    ensures { λ k. ⌜ k ≡ countsAt (negativePivots (now (d .entry)) (now (f .entry)) entries) (midpointsAhead r) ⌝ }
+{
+    let x = r.value;
+    let l = (x + r.lower) / 2.0;
+    let h = (r.upper + x) / 2.0;
+    let midpoints = sturm::Seven {
+        x,
+        l,
+        h,
+        ll: (l + r.lower) / 2.0,
+        lh: (x + l) / 2.0,
+        hl: (h + x) / 2.0,
+        hh: (r.upper + h) / 2.0,
+    };
+    sturm::negative_pivots(d, f, entries, midpoints)
+}
+
+// The counts that are left after a step: those of the half that the count at x leaves.
+fn counts_after(counts: sturm::Counts, place: usize) -> sturm::Counts
+    ensures { λ r. ⌜ r ≡ countsAfter place counts ⌝ }
+{
+    if counts.x < place {
+        return sturm::Counts {
+            x: counts.h,
+            l: counts.hl,
+            h: counts.hh,
+            ll: 0,
+            lh: 0,
+            hl: 0,
+            hh: 0,
+        };
+    }
+    sturm::Counts {
+        x: counts.l,
+        l: counts.ll,
+        h: counts.lh,
+        ll: 0,
+        lh: 0,
+        hl: 0,
+        hh: 0,
+    }
+}
+
+// The allowance falls by one at each midpoint. A step's count is not known before the step, but its
+// midpoint is one of few: one pass counts for three steps, and takes little longer than for one.
 pub(crate) fn bisect(
     d: &[f64; 300],
     f: &[f64; 300],
@@ -100,18 +156,33 @@ pub(crate) fn bisect(
 {
     let mut r = start;
     let mut left = allowance;
+    let mut counts = sturm::Counts {
+        x: 0,
+        l: 0,
+        h: 0,
+        ll: 0,
+        lh: 0,
+        hl: 0,
+        hh: 0,
+    };
+    // for how many steps the counts are known
+    let mut known: u32 = 0;
     while 0 < left {
         left = left - 1;
         r = r.with_midpoint();
         if r.converged() {
             return Search::Converged(r);
         }
-        let x = r.value;
-        let count = sturm::negative_pivots(d, f, entries, x);
-        r = r.tightened(count, place);
-        if place <= count {
-            tighten_others(uppers, lowers, count, places, x);
+        if known == 0 {
+            counts = counts_ahead(d, f, entries, r);
+            known = 3;
         }
+        let x = r.value;
+        let count = counts.x;
+        r = r.tightened(count, place);
+        tighten_others(uppers, lowers, count, place, places, x);
+        counts = counts_after(counts, place);
+        known = known - 1;
     }
     Search::OutOfSteps
 }

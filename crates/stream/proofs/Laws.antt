@@ -1,7 +1,7 @@
 -- Laws of the texts that a record is answered with. Assumes nothing.
-use Prim.Native.Nat.{ℕ, suc, _+_, _-_, _≤_}
-use mathlib.Core.Path.{_≡_, refl, sym, ap, subst, _∙_}
-use mathlib.Core.Bool.{Bool, true, false}
+use Prim.Native.Nat.{ℕ, _+_, _-_, _≤_}
+use mathlib.Core.Path.{_≡_, sym, ap, subst, _∙_}
+use mathlib.Core.Bool.{true}
 use mathlib.Core.List.{List, [], append-nil}
 use native.Mathlib.Omega.{arith}
 use borrow.Author.Tests.{eqb-true}
@@ -20,6 +20,7 @@ use Rattle.modes.specs.declared.rows.RowAnswer.{RowAnswer}
 use Rattle.modes.specs.declared.rows.RowAnswer.the-variants.{Filled, Refused}
 use Rattle.modes.specs.Rows.{given, rowOf, blankSlices, rowOutcome, dlmfOf, dlmfOutcome}
 use Rattle.modes.proofs.Laws.{Accepted}
+use Rattle.modes.proofs.Given.{given-filled, given-refused}
 use Rattle.modes.proofs.Filled.{filled}
 use Rattle.modes.proofs.Demand3.{dlmf-accepted}
 use Rattle.stream.specs.Response.{vLines, dLines, rowText, dlmfText}
@@ -30,27 +31,6 @@ put-nothing l at h = record { ends = omega arith; fits = h; shows = sym (rw (app
 
 pub put-same : {a b : List ℕ} {f t : ℕ} {x y : List ℕ} → x ≡ y → Put a b f t x → Put a b f t y
 put-same {a} {b} {f} {t} e p = subst (Put a b f t) e p
-
--- ---- the number behind an answer
-code : RowAnswer → ℕ
-code Filled = 0
-code (Refused k) = suc k
-
-given-filled : (k : ℕ) → Filled ≡ given k → eqb k 0 ≡ true
-unfolding given code
-given-filled k e = go (eqb k 0) refl
-  where
-    go : (t : Bool) → eqb k 0 ≡ t → eqb k 0 ≡ true
-    go true h = h
-    go false h = let w : _≡_ {A = ℕ} 0 (suc k) = ap code (rw h at e) in absurd (omega arith)
-
-given-refused : (k j : ℕ) → Refused j ≡ given k → (eqb k 0 ≡ false) × (k ≡ j)
-unfolding given code
-given-refused k j e = go (eqb k 0) refl
-  where
-    go : (t : Bool) → eqb k 0 ≡ t → (eqb k 0 ≡ false) × (k ≡ j)
-    go true h = let w : _≡_ {A = ℕ} (suc j) 0 = ap code (rw h at e) in absurd (omega arith)
-    go false h = let w : suc j ≡ suc k = ap code (rw h at e) in (h, omega arith)
 
 -- ---- rows
 module _ (index : ℕ) (kind : Kind) (x : Mode) (allowance : ℕ) (v : List Float) (s : List ℕ) (w u : List Float)

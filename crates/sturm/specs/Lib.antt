@@ -1,3 +1,4 @@
 pub mod Entries
 pub mod Bounds
 pub mod Pivots
+pub mod SevenShifts

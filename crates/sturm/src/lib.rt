@@ -11,4 +11,6 @@ pub use entries::entry_g;
 pub use entries::fill;
 pub use gershgorin_bounds::Bounds;
 pub use gershgorin_bounds::gershgorin;
+pub use pivots::Counts;
+pub use pivots::Seven;
 pub use pivots::negative_pivots;

@@ -1,28 +1,164 @@
 // The Sturm count: how many characteristic values of the matrix lie below a shift, by the signs of
-// its pivots.
+// its pivots. Each pivot waits for the division before it, so the counts at seven shifts are taken in
+// one loop, where seven divisions are under way at a time.
 ghost use mathlib.Core.Path.{_≡_};
-ghost use Prim.Native.Nat.{_≤_};
-ghost use Rattle.sturm.specs.Pivots.{negativePivots};
+ghost use mathlib.Core.Bool.{false, cond};
+ghost use Prim.Native.Nat.{_+_, _<_, _≤_};
+ghost use lib.Ieee.{lt};
+ghost use Rattle.arith.specs.Double.{#0};
+ghost use Rattle.sturm.specs.Pivots.{substituted, negativePivots};
+ghost use Rattle.sturm.specs.SevenShifts.{each, nextPivots, countsAt, Few, countedOn};
 
-// How many pivots of the first `entries` entries, shifted by x, are below zero. A zero pivot would be
-// divided by, so 1e-30 stands in for it.
-pub fn negative_pivots(d: &[f64; 300], f: &[f64; 300], entries: usize, x: f64) -> usize
-    requires { ⌜ entries ≤ 300 ⌝ }
-    ensures { λ r. ⌜ r ≡ negativePivots (now (d .entry)) (now (f .entry)) entries x ⌝ }
+// A double for each of seven shifts, named as a bisection needs them: x for a midpoint, l and h for
+// those of its lower and its upper half, ll to hh for those of its quarters. Nothing here depends on
+// their order.
+pub struct Seven {
+    pub x: f64,
+    pub l: f64,
+    pub h: f64,
+    pub ll: f64,
+    pub lh: f64,
+    pub hl: f64,
+    pub hh: f64,
+}
+
+// A count for each of them.
+pub struct Counts {
+    pub x: usize,
+    pub l: usize,
+    pub h: usize,
+    pub ll: usize,
+    pub lh: usize,
+    pub hl: usize,
+    pub hh: usize,
+}
+
+// A zero pivot would be divided by, so 1e-30 stands in for it.
+fn divisor(s: f64) -> f64
+    ensures { λ r. ⌜ r ≡ substituted s ⌝ }
 {
-    let mut negative: usize = 0;
-    let mut s: f64 = 1.0;
-    let mut i: usize = 0;
-    while i < entries {
-        if s == 0.0 {
-            s = 1e-30;
-        }
-        let t = f[i] / s;
-        s = (d[i] - t) - x;
-        if s < 0.0 {
-            negative = negative + 1;
-        }
-        i = i + 1;
+    if s == 0.0 {
+        return 1e-30;
+    }
+    s
+}
+
+fn counted(negative: usize, s: f64) -> usize
+    requires { ⌜ negative < 300 ⌝ }
+    ensures { λ r. ⌜ r ≡ cond (lt s #0) (negative + 1) negative ⌝ }
+{
+    if s < 0.0 {
+        return negative + 1;
     }
     negative
+}
+
+impl Seven {
+    // Whether a pivot is zero: if none is, none has to be substituted.
+    fn any_zero(self) -> bool
+        ensures { λ r. ⌜ (r ≡ false → self ≡ each substituted self) ⌝ }
+    {
+        if self.x == 0.0 {
+            return true;
+        }
+        if self.l == 0.0 {
+            return true;
+        }
+        if self.h == 0.0 {
+            return true;
+        }
+        if self.ll == 0.0 {
+            return true;
+        }
+        if self.lh == 0.0 {
+            return true;
+        }
+        if self.hl == 0.0 {
+            return true;
+        }
+        self.hh == 0.0
+    }
+
+    // What is divided by. One branch for all seven keeps the substitute, which is rarely needed,
+    // from delaying every division.
+    fn divisors(self) -> Seven
+        ensures { λ r. ⌜ r ≡ each substituted self ⌝ }
+    {
+        if self.any_zero() {
+            return Seven {
+                x: divisor(self.x),
+                l: divisor(self.l),
+                h: divisor(self.h),
+                ll: divisor(self.ll),
+                lh: divisor(self.lh),
+                hl: divisor(self.hl),
+                hh: divisor(self.hh),
+            };
+        }
+        self
+    }
+
+    // The pivots after these divisors, at the entry d with f beside it.
+    fn next(self, d: f64, f: f64, shifts: Seven) -> Seven
+        ensures { λ r. ⌜ r ≡ nextPivots d f shifts self ⌝ }
+    {
+        Seven {
+            x: (d - f / self.x) - shifts.x,
+            l: (d - f / self.l) - shifts.l,
+            h: (d - f / self.h) - shifts.h,
+            ll: (d - f / self.ll) - shifts.ll,
+            lh: (d - f / self.lh) - shifts.lh,
+            hl: (d - f / self.hl) - shifts.hl,
+            hh: (d - f / self.hh) - shifts.hh,
+        }
+    }
+}
+
+impl Counts {
+    fn counted(self, s: Seven) -> Counts
+        requires { ⌜ Few 300 self ⌝ }
+        ensures { λ r. ⌜ r ≡ countedOn s self ⌝ }
+    {
+        Counts {
+            x: counted(self.x, s.x),
+            l: counted(self.l, s.l),
+            h: counted(self.h, s.h),
+            ll: counted(self.ll, s.ll),
+            lh: counted(self.lh, s.lh),
+            hl: counted(self.hl, s.hl),
+            hh: counted(self.hh, s.hh),
+        }
+    }
+}
+
+// How many pivots of the first `entries` entries are below zero, at each shift.
+pub fn negative_pivots(d: &[f64; 300], f: &[f64; 300], entries: usize, shifts: Seven) -> Counts
+    requires { ⌜ entries ≤ 300 ⌝ }
+    ensures { λ r. ⌜ r ≡ countsAt (negativePivots (now (d .entry)) (now (f .entry)) entries) shifts ⌝ }
+{
+    let mut s = Seven {
+        x: 1.0,
+        l: 1.0,
+        h: 1.0,
+        ll: 1.0,
+        lh: 1.0,
+        hl: 1.0,
+        hh: 1.0,
+    };
+    let mut counts = Counts {
+        x: 0,
+        l: 0,
+        h: 0,
+        ll: 0,
+        lh: 0,
+        hl: 0,
+        hh: 0,
+    };
+    let mut i: usize = 0;
+    while i < entries {
+        s = s.divisors().next(d[i], f[i], shifts);
+        counts = counts.counted(s);
+        i = i + 1;
+    }
+    counts
 }

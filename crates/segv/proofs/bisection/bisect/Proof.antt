@@ -1,23 +1,27 @@
--- `segv::bisection::bisect` meets its contract. The invariant: what is left to do gives the whole answer, and steps and allowance add up. Assumes nothing.
+-- `segv::bisection::bisect` meets its contract. The invariant: what is left to do gives the whole answer, steps and allowance add up, and the known counts are those at the midpoints to come. Assumes nothing.
 use Rattle.segv.proofs.Laws as laws
-use Prim.Native.Nat.{_-_, _+_}
+use Rattle.segv.proofs.Ahead.{Known, none-known, three-known, count-known, known-after}
+use Prim.Native.Nat.{_-_, _+_, _<_}
 use mathlib.Core.Path.{_≡_, refl, sym, _∙_}
+use mathlib.Core.Logic.{⊎-elim}
 use native.Mathlib.Omega.{arith}
-use Rattle.segv.specs.Bisection.{bisection, ends, converged}
+use Rattle.sturm.specs.Pivots.{negativePivots}
+use Rattle.segv.specs.Bisection.{bisection, ends}
 use borrow.Author.Needs.{needs}
 use Rattle.segv.proofs.bisection.bisect.Statement.{statement}
 use Rattle.segv.proofs.bisection.bisect.Tie as tie
 
 abbrev Inv-loop : tie.InvT-loop
-Inv-loop d f entries places number allowance uppers₀ lowers₀ r₀ left₀ uppers lowers r left =
+Inv-loop d f entries places place allowance uppers₀ lowers₀ r₀ left₀ counts₀ known₀ uppers lowers r left counts known =
     (r .steps + left ≡ allowance)
-    × (bisection d f entries places number left r (ends uppers lowers) ≡ bisection d f entries places number allowance r₀ (ends uppers₀ lowers₀))
+    × (bisection d f entries places place left r (ends uppers lowers) ≡ bisection d f entries places place allowance r₀ (ends uppers₀ lowers₀))
+    × Known (negativePivots d f entries) known (r .lower) (r .upper) counts
 
 abbrev μ-loop : tie.MeasureT-loop
-μ-loop d f entries places number allowance uppers₀ lowers₀ r₀ left₀ uppers lowers r left = left
+μ-loop d f entries places place allowance uppers₀ lowers₀ r₀ left₀ counts₀ known₀ uppers lowers r left counts known = left
 
 loop-holds : tie.Need-loop-holds Inv-loop μ-loop
-loop-holds c = (omega arith, refl)
+loop-holds c = (omega arith, refl, none-known _ _ _ _)
 
 sub-left : tie.Need-sub-left Inv-loop μ-loop
 sub-left c = search needs
@@ -31,11 +35,22 @@ converged-requires c κs = search needs
 returns : tie.Need-returns Inv-loop μ-loop
 returns c =
     let l = c .before .before .before .before .loop in
-    let m = laws.met _ _ _ _ _ (l .left) (l .left - 1) (l .r) (c .before .before .with-midpoint .result) (ends (l .uppers) (l .lowers)) _ (omega arith) (c .before .before .with-midpoint .ensures) (c .before .converged .ensures) (c .if1 .taken) in
+    let h = c .before .before .with-midpoint in
+    let m = laws.met _ _ _ _ _ (l .left) (l .left - 1) (l .r) (h .result) (ends (l .uppers) (l .lowers)) _ (omega arith) (h .ensures) (c .before .converged .ensures) (c .if1 .taken) in
     laws.searched _ _ _ _ _ _ _ _ _ _ (sym (l .inv .1) ∙ m)
 
-negative-pivots-requires : tie.Need-negative-pivots-requires Inv-loop μ-loop
-negative-pivots-requires c κs = search needs
+counts-ahead-requires : tie.Need-counts-ahead-requires Inv-loop μ-loop
+counts-ahead-requires c κs = search needs
+
+-- after the test of `known` the count of this step is known
+recounted : (c : tie.Joined2 Inv-loop μ-loop)
+    → let l = c .before .before .before .before .before .loop in let a = c .before .before .before .before .before .before .args in
+    (0 < c .if2 .known) × Known (negativePivots (a .d .now) (a .f .now) (a .entries)) (c .if2 .known) (l .r .lower) (l .r .upper) (c .if2 .counts)
+recounted c =
+    let l = c .before .before .before .before .before .loop in
+    let h = c .before .before .before .with-midpoint in
+    ⊎-elim (λ w. let e = w .3 in (omega arith, rw (w .2, w .3) (three-known _ (l .r) (h .result) _ (h .ensures) (w .1 .ensures))))
+    (λ w. let e = w .2 in let f = w .0 .left in (omega arith, rw (w .1, w .2) (l .inv .2))) (c .if2 .came)
 
 tightened-requires : tie.Need-tightened-requires Inv-loop μ-loop
 tightened-requires c κs = search needs
@@ -43,28 +58,27 @@ tightened-requires c κs = search needs
 tighten-others-requires : tie.Need-tighten-others-requires Inv-loop μ-loop
 tighten-others-requires c κs = search needs
 
+counts-after-requires : tie.Need-counts-after-requires Inv-loop μ-loop
+counts-after-requires c κs = search needs
+
+sub-known : tie.Need-sub-known Inv-loop μ-loop
+sub-known c = let p = recounted (c .before .before .before .before .before .before) .0 in omega (arith, p)
+
 loop-less : tie.Need-loop-less Inv-loop μ-loop
 loop-less c = search needs
 
 loop-again : tie.Need-loop-again Inv-loop μ-loop
 loop-again c =
-    let l = c .before .before .before .before .before .before .before .before .before .before .loop in
-    let halved = c .before .before .before .before .before .before .before .before .with-midpoint in
-    let t = c .before .before .before .before .tightened in
-    let s = laws.steps-on _ _ (l .r) (halved .result) (t .result) (halved .ensures) (t .ensures) in
-    let m = laws.on _ _ _ _ _ (l .left) (l .left - 1) (l .r) (halved .result) (ends (l .uppers) (l .lowers)) _ _ (t .result) _ (omega arith) (halved .ensures) (c .before .before .before .before .before .before .before .converged .ensures) (c .before .before .before .before .before .before .if1 .left) (c .before .before .before .before .before .negative-pivots .ensures) (t .ensures) (laws.tightened _ _ _ _ _ _ _ (c .before .before .before .if2 .taken) (c .tighten-others .ensures .0) (c .tighten-others .ensures .1)) in
-    (omega (arith, s), sym m ∙ l .inv .1)
-
-loop-less-2 : tie.Need-loop-less-2 Inv-loop μ-loop
-loop-less-2 c = search needs
-
-loop-again-2 : tie.Need-loop-again-2 Inv-loop μ-loop
-loop-again-2 c =
-    let l = c .before .before .before .before .before .before .before .loop in
-    let halved = c .before .before .before .before .before .with-midpoint in
-    let s = laws.steps-on _ _ (l .r) (halved .result) (c .before .tightened .result) (halved .ensures) (c .before .tightened .ensures) in
-    let m = laws.on _ _ _ _ _ (l .left) (l .left - 1) (l .r) (halved .result) (ends (l .uppers) (l .lowers)) _ _ (c .before .tightened .result) _ (omega arith) (halved .ensures) (c .before .before .before .before .converged .ensures) (c .before .before .before .if1 .left) (c .before .before .negative-pivots .ensures) (c .before .tightened .ensures) (laws.kept _ _ _ _ _ (c .if2 .left)) in
-    (omega (arith, s), sym m ∙ l .inv .1)
+    let j = c .before .before .before .before .before .before in
+    let l = j .before .before .before .before .before .loop in
+    let h = j .before .before .before .with-midpoint in
+    let t = c .before .before .before .before .before .tightened in
+    let o = c .before .before .tighten-others in
+    let k = recounted j in
+    let s = laws.steps-on _ _ (l .r) (h .result) (t .result) (h .ensures) (t .ensures) in
+    let n = count-known _ _ (l .r) (h .result) _ (h .ensures) (k .1) (k .0) in
+    let m = laws.on _ _ _ _ _ (l .left) (l .left - 1) (l .r) (h .result) (ends (l .uppers) (l .lowers)) _ _ (t .result) _ (omega arith) (h .ensures) (j .before .before .converged .ensures) (j .before .if1 .left) n (t .ensures) (laws.tightened _ _ _ _ _ _ _ (o .ensures .0) (o .ensures .1)) in
+    (omega (arith, s), sym m ∙ l .inv .1, known-after _ _ (l .r) (h .result) _ (h .ensures) (k .1) _ (t .result) _ (t .ensures) (c .before .counts-after .ensures))
 
 returns-2 : tie.Need-returns-2 Inv-loop μ-loop
 returns-2 c =
@@ -83,11 +97,11 @@ bisect-spec =
     with-midpoint-requires
     converged-requires
     returns
-    negative-pivots-requires
+    counts-ahead-requires
     tightened-requires
     tighten-others-requires
+    counts-after-requires
+    sub-known
     loop-less
     loop-again
-    loop-less-2
-    loop-again-2
     returns-2)

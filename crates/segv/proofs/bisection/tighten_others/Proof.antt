@@ -1,9 +1,13 @@
 -- `segv::bisection::tighten_others` meets its contract. Assumes nothing.
 use borrow.Author.Tests.{le-leb, lt-leb}
-use Rattle.segv.specs.Bisection.{tightenOthers}
+use Rattle.segv.specs.Bisection.{tightenAll, tightenOthers}
 use borrow.Author.Needs.{needs}
 use Rattle.segv.proofs.bisection.tighten_others.Statement.{statement}
 use Rattle.segv.proofs.bisection.tighten_others.Tie as tie
+
+returns : tie.Need-returns
+unfolding tightenAll
+returns c = (rw (lt-leb _ _ (c .if1 .taken)), rw (lt-leb _ _ (c .if1 .taken)))
 
 sub-uppers : tie.Need-sub-uppers
 sub-uppers c = search needs
@@ -14,9 +18,11 @@ mul-uppers c = search needs
 element-write-uppers : tie.Need-element-write-uppers
 element-write-uppers c = search needs
 
-returns : tie.Need-returns
-unfolding tightenOthers
-returns c = (rw (le-leb _ _ (c .if1 .taken)), rw (le-leb _ _ (c .if1 .taken)))
+returns-2 : tie.Need-returns-2
+unfolding tightenAll tightenOthers
+returns-2 c =
+    let h = c .before .if1 .left in
+    (rw (le-leb _ _ h, le-leb _ _ (c .if2 .taken)), rw (le-leb _ _ h, le-leb _ _ (c .if2 .taken)))
 
 mul-greater : tie.Need-mul-greater
 mul-greater c = search needs
@@ -51,20 +57,22 @@ mul-uppers-2 c = search needs
 element-write-uppers-2 : tie.Need-element-write-uppers-2
 element-write-uppers-2 c = search needs
 
-returns-2 : tie.Need-returns-2
-unfolding tightenOthers
-returns-2 c =
-    let h = c .before .before .before .before .if1 .left in
-    (rw (lt-leb _ _ h, c .lesser .ensures), rw (lt-leb _ _ h, c .before .before .greater .ensures))
+returns-3 : tie.Need-returns-3
+unfolding tightenAll tightenOthers
+returns-3 c =
+    let h = c .before .before .before .before .before .if1 .left in
+    let k = c .before .before .before .before .if2 .left in
+    (rw (le-leb _ _ h, lt-leb _ _ k, c .lesser .ensures), rw (le-leb _ _ h, lt-leb _ _ k, c .before .before .greater .ensures))
 
 pub tighten-others-spec : {M : Type 1} → statement M
 tighten-others-spec =
     tie.close
     (tie.spec
+    returns
     sub-uppers
     mul-uppers
     element-write-uppers
-    returns
+    returns-2
     mul-greater
     element-copy-out-greater
     greater-requires
@@ -76,4 +84,4 @@ tighten-others-spec =
     element-write-lowers
     mul-uppers-2
     element-write-uppers-2
-    returns-2)
+    returns-3)

@@ -1,39 +1,44 @@
--- `sturm::pivots::negative_pivots` meets its contract. The invariant: pivot and count are the definition's after i entries. Assumes nothing.
-use mathlib.Core.Path.{ap, _∙_}
-use Prim.Native.Nat.{_≤_, _-_}
+-- `sturm::pivots::negative_pivots` meets its contract. The invariant: each of the seven chains is the definition's after i entries. Assumes nothing.
 use mathlib.Core.Path.{_≡_, refl}
-use mathlib.Core.Logic.{⊎-elim}
+use Prim.Native.Nat.{_≤_, _-_}
 use native.Mathlib.Omega.{arith}
-use native.Mathlib.Numerals.{add-one}
-use Rattle.sturm.specs.Pivots.{pivotsAt, nextPivot, substituted, negativePivots}
+use Rattle.sturm.specs.Pivots.{pivotsAt}
+use Rattle.sturm.proofs.pivots.Chain.{Chains, chain-starts, chains-few, chains-on, chains-end}
 use borrow.Author.Needs.{needs}
 use Rattle.sturm.proofs.pivots.negative_pivots.Statement.{statement}
 use Rattle.sturm.proofs.pivots.negative_pivots.Tie as tie
 
 abbrev Inv-loop : tie.InvT-loop
-Inv-loop d f entries x j₀ s₀ i₀ j s i = (i ≤ entries) × (j ≤ i) × (s ≡ pivotsAt d f x i .last) × (j ≡ pivotsAt d f x i .negative)
+Inv-loop d f entries shifts s₀ counts₀ i₀ s counts i = (i ≤ entries) × Chains d f shifts i s counts
 
 abbrev μ-loop : tie.MeasureT-loop
-μ-loop d f entries x j₀ s₀ i₀ j s i = entries - i
+μ-loop d f entries shifts s₀ counts₀ i₀ s counts i = entries - i
 
 loop-holds : tie.Need-loop-holds Inv-loop μ-loop
 unfolding pivotsAt
-loop-holds c = (omega arith, omega arith, refl, refl)
+loop-holds c =
+    (omega arith, record { x = chain-starts _ _ _ _ refl; l = chain-starts _ _ _ _ refl; h = chain-starts _ _ _ _ refl; ll = chain-starts _ _ _ _ refl; lh = chain-starts _ _ _ _ refl; hl = chain-starts _ _ _ _ refl; hh = chain-starts _ _ _ _ refl })
 
-mul-t : tie.Need-mul-t Inv-loop μ-loop
-mul-t c = search needs
+divisors-requires : tie.Need-divisors-requires Inv-loop μ-loop
+divisors-requires c κs = search needs
 
-element-copy-out-t : tie.Need-element-copy-out-t Inv-loop μ-loop
-element-copy-out-t c = search needs
+mul-next : tie.Need-mul-next Inv-loop μ-loop
+mul-next c = search needs
 
-mul-s : tie.Need-mul-s Inv-loop μ-loop
-mul-s c = search needs
+element-copy-out-next : tie.Need-element-copy-out-next Inv-loop μ-loop
+element-copy-out-next c = search needs
 
-element-copy-out-s : tie.Need-element-copy-out-s Inv-loop μ-loop
-element-copy-out-s c = search needs
+mul-next-2 : tie.Need-mul-next-2 Inv-loop μ-loop
+mul-next-2 c = search needs
 
-add-negative : tie.Need-add-negative Inv-loop μ-loop
-add-negative c = search needs
+element-copy-out-next-2 : tie.Need-element-copy-out-next-2 Inv-loop μ-loop
+element-copy-out-next-2 c = search needs
+
+next-requires : tie.Need-next-requires Inv-loop μ-loop
+next-requires c κs = search needs
+
+counted-requires : tie.Need-counted-requires Inv-loop μ-loop
+counted-requires c κs = let l = c .before .before .before .before .before .loop in chains-few _ _ _ _ _ _ (l .inv .1) (omega arith)
 
 add-i : tie.Need-add-i Inv-loop μ-loop
 add-i c = search needs
@@ -41,26 +46,16 @@ add-i c = search needs
 loop-less : tie.Need-loop-less Inv-loop μ-loop
 loop-less c = search needs
 
--- the pivot that is divided by
-divided : (c : tie.Joined1 Inv-loop μ-loop) → c .if1 .s ≡ substituted (c .before .before .loop .s)
-unfolding substituted
-divided c = ⊎-elim (λ w. rw (w .0 .taken) (w .1)) (λ w. rw (w .0 .left) (w .1)) (c .if1 .came)
-
 loop-again : tie.Need-loop-again Inv-loop μ-loop
-unfolding pivotsAt nextPivot
 loop-again c =
-    let before = c .before .before .before in
-    let e : before .if1 .s ≡ substituted (pivotsAt (before .before .before .before .args .d .now) (before .before .before .before .args .f .now) (before .before .before .before .args .x) (before .before .before .loop .i) .last) = divided before ∙ ap substituted (before .before .before .loop .inv .2) in (
-      omega arith,
-      ⊎-elim (λ w. omega arith) (λ w. omega arith) (c .if2 .came),
-      rw (add-one, e),
-      ⊎-elim (λ w. rw (add-one, ← e, w .0 .taken, ← (before .before .before .loop .inv .3)) (w .1))
-          (λ w. rw (add-one, ← e, w .0 .left, ← (before .before .before .loop .inv .3)) (w .1)) (c .if2 .came),
-    )
+    let l = c .before .before .before .before .before .before .loop in
+    (omega arith, chains-on _ _ _ _ _ _ (l .inv .1) _ _ _ (c .before .before .before .before .divisors .ensures) (c .before .next .ensures) (c .counted .ensures))
 
 returns : tie.Need-returns Inv-loop μ-loop
-unfolding negativePivots
-returns c = let h : c .before .loop .i ≡ c .before .before .args .entries = omega arith in rw (← h) (c .before .loop .inv .3)
+returns c =
+    let l = c .before .loop in
+    let h : l .i ≡ c .before .before .args .entries = omega arith in
+    chains-end _ _ _ _ _ _ (l .inv .1) _ h
 
 pub negative-pivots-spec : {M : Type 1} → statement M
 negative-pivots-spec =
@@ -69,11 +64,13 @@ negative-pivots-spec =
     Inv-loop
     μ-loop
     loop-holds
-    mul-t
-    element-copy-out-t
-    mul-s
-    element-copy-out-s
-    add-negative
+    divisors-requires
+    mul-next
+    element-copy-out-next
+    mul-next-2
+    element-copy-out-next-2
+    next-requires
+    counted-requires
     add-i
     loop-less
     loop-again

@@ -1,0 +1,2 @@
+-- Lemmas of the pivot count.
+mod Chain

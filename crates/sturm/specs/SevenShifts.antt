@@ -1,0 +1,31 @@
+-- Doubles and counts at seven shifts, one for one. Definitions only.
+use Prim.Native.Nat.{ℕ, _+_, _<_}
+use mathlib.Core.Bool.{cond}
+use lib.Ieee.{Float, lt}
+use Rattle.arith.specs.Double.{_⊖_, _⊘_, #0}
+use Rattle.sturm.specs.declared.pivots.Seven.{Seven}
+use Rattle.sturm.specs.declared.pivots.Counts.{Counts}
+
+abbrev pub each : (Float → Float) → Seven → Seven
+each g s = record { x = g (s .x); l = g (s .l); h = g (s .h); ll = g (s .ll); lh = g (s .lh); hl = g (s .hl); hh = g (s .hh) }
+
+-- the count that g gives at each
+abbrev pub countsAt : (Float → ℕ) → Seven → Counts
+countsAt g s = record { x = g (s .x); l = g (s .l); h = g (s .h); ll = g (s .ll); lh = g (s .lh); hl = g (s .hl); hh = g (s .hh) }
+
+-- at an entry d with f beside it, by these divisors
+abbrev pub nextPivots : Float → Float → Seven → Seven → Seven
+nextPivots d f shifts s = record { x = (d ⊖ f ⊘ s .x) ⊖ shifts .x; l = (d ⊖ f ⊘ s .l) ⊖ shifts .l; h = (d ⊖ f ⊘ s .h) ⊖ shifts .h; ll = (d ⊖ f ⊘ s .ll) ⊖ shifts .ll; lh = (d ⊖ f ⊘ s .lh) ⊖ shifts .lh; hl = (d ⊖ f ⊘ s .hl) ⊖ shifts .hl; hh = (d ⊖ f ⊘ s .hh) ⊖ shifts .hh }
+
+-- one more where a pivot is below zero
+abbrev pub countedOn : Seven → Counts → Counts
+countedOn s n = record { x = cond (lt (s .x) #0) (n .x + 1) (n .x); l = cond (lt (s .l) #0) (n .l + 1) (n .l); h = cond (lt (s .h) #0) (n .h + 1) (n .h); ll = cond (lt (s .ll) #0) (n .ll + 1) (n .ll); lh = cond (lt (s .lh) #0) (n .lh + 1) (n .lh); hl = cond (lt (s .hl) #0) (n .hl + 1) (n .hl); hh = cond (lt (s .hh) #0) (n .hh + 1) (n .hh) }
+
+pub record Few (bound : ℕ) (n : Counts) : Type 0 where
+  pub x : n .x < bound
+  pub l : n .l < bound
+  pub h : n .h < bound
+  pub ll : n .ll < bound
+  pub lh : n .lh < bound
+  pub hl : n .hl < bound
+  pub hh : n .hh < bound
