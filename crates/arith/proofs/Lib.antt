@@ -4,3 +4,4 @@ pub mod Numbers
 pub mod Fields
 pub mod Unsigned
 pub mod Laws
+pub mod Exact

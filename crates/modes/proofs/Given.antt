@@ -5,11 +5,11 @@ use mathlib.Core.Bool.{Bool, true, false}
 use native.Mathlib.Omega.{arith}
 use borrow.Author.Tests.{eqb-true}
 use lib.Dec.{eqb}
-use Rattle.modes.specs.declared.rows.RowAnswer.{RowAnswer}
-use Rattle.modes.specs.declared.rows.RowAnswer.the-variants.{Filled, Refused}
-use Rattle.modes.specs.Rows.{given}
+use Rattle.modes.specs.declared.answers.SliceAnswer.{SliceAnswer}
+use Rattle.modes.specs.declared.answers.SliceAnswer.the-variants.{Filled, Refused}
+use Rattle.modes.specs.Answers.{given}
 
-code : RowAnswer → ℕ
+code : SliceAnswer → ℕ
 code Filled = 0
 code (Refused k) = suc k
 

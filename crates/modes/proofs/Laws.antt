@@ -26,8 +26,9 @@ use Rattle.segv.specs.Row.{Slices, slices, writtenRow, RowAnswer, answer, segvR
 use Rattle.modes.specs.declared.checking.Mode.{Mode}
 use Rattle.modes.specs.declared.checking.Kind.{Kind}
 use Rattle.modes.specs.Refusals.{outOfRange, noParameter, refusalOf, rowRefusal, modeRefusal, hOf, entriesOf, #291, signOf, notFinite}
+use Rattle.modes.specs.Answers.{single}
 use Rattle.modes.specs.Coefficients.{coefficientsOf}
-use Rattle.modes.specs.Rows.{zeroAt, rowIn, rowOf, tooShort, blankSlices, lessened, single, dlmfIn, dlmfOf}
+use Rattle.modes.specs.Rows.{zeroAt, rowIn, rowOf, tooShort, blankSlices, lessened, dlmfIn, dlmfOf}
 
 -- ---- refusal 5
 pub nan-refused : (c : Float) → ne c c ≡ true → true ≡ noParameter c

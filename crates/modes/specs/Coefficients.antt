@@ -9,10 +9,10 @@ use Rattle.expansion.specs.Sdmn.{sdmn}
 use Rattle.modes.specs.declared.checking.Kind.{Kind}
 use Rattle.modes.specs.declared.checking.Mode.{Mode}
 use Rattle.modes.specs.Refusals.{signOf, modeRefusal, notFinite}
-use Rattle.modes.specs.Rows.{DlmfAnswer, single}
+use Rattle.modes.specs.Answers.{Single, single}
 
 -- refused 4, 5, 6, 7 or 9 (the slice has fewer than 200 places), the slice stays as it was; else the coefficients are in its first 200 places
-unfoldable pub coefficientsOf : Kind → Mode → Float → List Float → DlmfAnswer
+unfoldable pub coefficientsOf : Kind → Mode → Float → List Float → Single
 coefficientsOf kind x cv xs =
     let r = cond (notFinite cv) (single 7 xs) (cond (ltb (length xs) 200) (single 9 xs) (single 0 (sdmn (x .m) (x .n) (x .c) cv (signOf kind) ++ drop 200 xs))) in
     cond (eqb (modeRefusal x) 0) r (single (modeRefusal x) xs)

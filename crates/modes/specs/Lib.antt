@@ -1,3 +1,4 @@
+pub mod Answers
 pub mod Refusals
 pub mod Operations
 pub mod Rows

@@ -11,13 +11,9 @@ use Rattle.segv.specs.Families.{bothFamilies}
 use Rattle.segv.specs.Row.{Slices, slices, writtenRow, RowAnswer, answer, segvRow}
 use Rattle.modes.specs.declared.checking.Kind.{Kind}
 use Rattle.modes.specs.declared.checking.Mode.{Mode}
-use Rattle.modes.specs.declared.rows.RowAnswer as Given
-use Rattle.modes.specs.declared.rows.RowAnswer.the-variants.{Filled, Refused}
+use Rattle.modes.specs.declared.answers.SliceAnswer.{SliceAnswer}
+use Rattle.modes.specs.Answers.{given, Single, single}
 use Rattle.modes.specs.Refusals.{signOf, entriesOf, rowRefusal}
-
--- the answer with document 01's number: 0 is no refusal
-unfoldable pub given : ℕ → Given.RowAnswer
-given k = cond (eqb k 0) Filled (Refused k)
 
 -- ---- the row
 
@@ -44,7 +40,7 @@ rowOf kind x allowance l =
 
 -- what a caller gets: the answer, and the slices afterwards
 pub record RowOutcome : Type 0 where
-  pub answer : Given.RowAnswer
+  pub answer : SliceAnswer
   pub after : Slices
 
 abbrev pub rowOutcome : RowAnswer → RowOutcome
@@ -61,26 +57,11 @@ unfoldable pub lessened : List Float → Float → ℕ → List Float → List F
 lessened values x zero xs = xs
 lessened values x (suc n) xs = set (lessened values x n xs) n (at values n ⊖ x)
 
--- a refusal's number, or 0 for none, and the slice afterwards
-pub record DlmfAnswer : Type 0 where
-  pub number : ℕ
-  pub after : List Float
-
-abbrev pub single : ℕ → List Float → DlmfAnswer
-single k xs = record { number = k; after = xs }
-
 -- from the answer of the row: each value less c × c
-unfoldable pub dlmfIn : Mode → RowAnswer → List Float → DlmfAnswer
+unfoldable pub dlmfIn : Mode → RowAnswer → List Float → Single
 dlmfIn x a xs = cond (eqb (a .number) 0) (single 0 (lessened (a .after .values) (x .c ⊗ x .c) (x .n - x .m + 1) xs)) (single (a .number) xs)
 
-unfoldable pub dlmfOf : Kind → Mode → ℕ → List Float → DlmfAnswer
+unfoldable pub dlmfOf : Kind → Mode → ℕ → List Float → Single
 dlmfOf kind x allowance xs =
     let r = cond (leb (length xs) (x .n - x .m)) (single 9 xs) (dlmfIn x (rowIn kind x allowance blankSlices) xs) in
     cond (eqb (rowRefusal x) 0) r (single (rowRefusal x) xs)
-
-pub record DlmfOutcome : Type 0 where
-  pub answer : Given.RowAnswer
-  pub after : List Float
-
-abbrev pub dlmfOutcome : DlmfAnswer → DlmfOutcome
-dlmfOutcome a = record { answer = given (a .number); after = a .after }

@@ -3,11 +3,11 @@ ghost use mathlib.Core.Path.{_≡_};
 ghost use Prim.Native.Nat.{_≤_};
 ghost use lib.ListN.{length, drop};
 ghost use mathlib.Core.List.{_++_};
-ghost use Rattle.modes.specs.Rows.{single, dlmfOutcome};
+ghost use Rattle.modes.specs.Answers.{single, sliceOutcome};
 ghost use Rattle.modes.specs.Coefficients.{coefficientsOf};
+use super::answers::SliceAnswer;
 use super::checking::Kind;
 use super::checking::Mode;
-use super::rows::RowAnswer;
 
 // The coefficients go into the first 200 places.
 fn copy(df: &[f64; 200], out: &mut [f64])
@@ -43,8 +43,8 @@ fn coefficients_number(kind: Kind, mode: Mode, cv: f64, out: &mut [f64]) -> u8
 
 // The expansion coefficients for a characteristic value cv, into the first 200 places. Refusals 4, 5,
 // 6, 7 and 9.
-pub fn coefficients(kind: Kind, mode: Mode, cv: f64, out: &mut [f64]) -> RowAnswer
-    ensures { λ r. ⌜ record { answer = r; after = now (out .exit) } ≡ dlmfOutcome (coefficientsOf kind mode cv (now (out .entry))) ⌝ }
+pub fn coefficients(kind: Kind, mode: Mode, cv: f64, out: &mut [f64]) -> SliceAnswer
+    ensures { λ r. ⌜ record { answer = r; after = now (out .exit) } ≡ sliceOutcome (coefficientsOf kind mode cv (now (out .entry))) ⌝ }
 {
-    super::rows::row_answer(coefficients_number(kind, mode, cv, out))
+    super::answers::slice_answer(coefficients_number(kind, mode, cv, out))
 }

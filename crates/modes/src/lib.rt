@@ -1,15 +1,16 @@
 // The public library. Nothing here asks anything of its caller: what document 01 does not accept is
 // refused by its number, and a refused call leaves every slice as it was.
+mod answers;
 mod checking;
 mod expansions;
 mod operations;
 mod rows;
 
+pub use answers::SliceAnswer;
 pub use checking::Kind;
 pub use checking::Mode;
 pub use expansions::coefficients;
 pub use operations::Operation;
 pub use operations::operation_of;
-pub use rows::RowAnswer;
 pub use rows::dlmf_row;
 pub use rows::row;

@@ -5,25 +5,11 @@ ghost use lib.ListN.{length, replicate};
 ghost use Rattle.arith.specs.Double.{#0};
 ghost use Rattle.segv.specs.Row.{slices, writtenRow, answer};
 ghost use Rattle.modes.specs.Refusals.{rowRefusal};
-ghost use Rattle.modes.specs.Rows.{zeroAt, rowIn, rowOf, lessened, single, dlmfOf, given, rowOutcome, dlmfOutcome};
+ghost use Rattle.modes.specs.Answers.{single, sliceOutcome};
+ghost use Rattle.modes.specs.Rows.{zeroAt, rowIn, rowOf, lessened, dlmfOf, rowOutcome};
+use super::answers::SliceAnswer;
 use super::checking::Kind;
 use super::checking::Mode;
-
-pub enum RowAnswer {
-    // The slices hold the row.
-    Filled,
-    // Document 01's number; the slices are as they were.
-    Refused(u8),
-}
-
-pub(crate) fn row_answer(number: u8) -> RowAnswer
-    ensures { λ r. ⌜ r ≡ given number ⌝ }
-{
-    if number == 0 {
-        return RowAnswer::Filled;
-    }
-    RowAnswer::Refused(number)
-}
 
 // The row where c is below 1e-10.
 fn zero_row(
@@ -120,11 +106,11 @@ pub fn row(
     steps: &mut [u16],
     lowers: &mut [f64],
     uppers: &mut [f64],
-) -> RowAnswer
+) -> SliceAnswer
     ensures { λ r. ⌜ record { answer = r; after = slices (now (values .exit)) (now (steps .exit)) (now (lowers .exit)) (now (uppers .exit)) }
         ≡ rowOutcome (rowOf kind mode allowance (slices (now (values .entry)) (now (steps .entry)) (now (lowers .entry)) (now (uppers .entry)))) ⌝ }
 {
-    row_answer(row_number(kind, mode, allowance, values, steps, lowers, uppers))
+    super::answers::slice_answer(row_number(kind, mode, allowance, values, steps, lowers, uppers))
 }
 
 // Two hundred zeros. Made by a call, an array is one value in the caller's proof.
@@ -185,8 +171,8 @@ fn dlmf_number(kind: Kind, mode: Mode, allowance: u16, out: &mut [f64]) -> u8
 }
 
 // The row in DLMF's form: each value less c * c. Refusals 4, 5, 6, 9 and 10.
-pub fn dlmf_row(kind: Kind, mode: Mode, allowance: u16, values: &mut [f64]) -> RowAnswer
-    ensures { λ r. ⌜ record { answer = r; after = now (values .exit) } ≡ dlmfOutcome (dlmfOf kind mode allowance (now (values .entry))) ⌝ }
+pub fn dlmf_row(kind: Kind, mode: Mode, allowance: u16, values: &mut [f64]) -> SliceAnswer
+    ensures { λ r. ⌜ record { answer = r; after = now (values .exit) } ≡ sliceOutcome (dlmfOf kind mode allowance (now (values .entry))) ⌝ }
 {
-    row_answer(dlmf_number(kind, mode, allowance, values))
+    super::answers::slice_answer(dlmf_number(kind, mode, allowance, values))
 }

@@ -5,13 +5,14 @@ use mathlib.Core.List.{List}
 use lib.Ieee.{Float}
 use Rattle.segv.specs.Row as Row
 use Rattle.segv.specs.Row.{Slices, answer}
-use Rattle.modes.specs.declared.rows.RowAnswer.{RowAnswer}
-use Rattle.modes.specs.Rows.{given, rowOutcome, DlmfAnswer, single, dlmfOutcome}
+use Rattle.modes.specs.declared.answers.SliceAnswer.{SliceAnswer}
+use Rattle.modes.specs.Answers.{given, Single, single, sliceOutcome}
+use Rattle.modes.specs.Rows.{rowOutcome}
 
-pub row-is : (a : Row.RowAnswer) (r : RowAnswer) (after : Slices) (k : ℕ) → record { answer = r; after = after } ≡ rowOutcome a → ((j : ℕ) → r ≡ given j → k ≡ j)
+pub row-is : (a : Row.RowAnswer) (r : SliceAnswer) (after : Slices) (k : ℕ) → record { answer = r; after = after } ≡ rowOutcome a → ((j : ℕ) → r ≡ given j → k ≡ j)
     → answer k after ≡ a
 row-is a r after k e number = rw (number (a .number) (ap (λ o. o .answer) e), ap (λ o. o .after) e)
 
-pub dlmf-is : (a : DlmfAnswer) (r : RowAnswer) (after : List Float) (k : ℕ) → record { answer = r; after = after } ≡ dlmfOutcome a → ((j : ℕ) → r ≡ given j → k ≡ j)
+pub dlmf-is : (a : Single) (r : SliceAnswer) (after : List Float) (k : ℕ) → record { answer = r; after = after } ≡ sliceOutcome a → ((j : ℕ) → r ≡ given j → k ≡ j)
     → single k after ≡ a
 dlmf-is a r after k e number = rw (number (a .number) (ap (λ o. o .answer) e), ap (λ o. o .after) e)

@@ -4,18 +4,19 @@ ghost use mathlib.Core.Path.{_≡_};
 ghost use Prim.Native.Nat.{ℕ};
 ghost use Rattle.segv.specs.Row.{slices, answer};
 ghost use Rattle.modes.specs.declared.checking.Kind.the-variants.{Prolate, Oblate};
-ghost use Rattle.modes.specs.Rows.{rowOf, single, dlmfOf, given};
+ghost use Rattle.modes.specs.Rows.{rowOf, dlmfOf};
+ghost use Rattle.modes.specs.Answers.{single, given};
 use modes::Kind;
 use modes::Mode;
-use modes::RowAnswer;
+use modes::SliceAnswer;
 
 // The number behind an answer.
-fn number(answer: RowAnswer) -> u8
+fn number(answer: SliceAnswer) -> u8
     ensures { λ r. ⌜ ((k : ℕ) → answer ≡ given k → r ≡ k) ⌝ }
 {
     match answer {
-        RowAnswer::Filled => 0,
-        RowAnswer::Refused(refusal) => refusal,
+        SliceAnswer::Filled => 0,
+        SliceAnswer::Refused(refusal) => refusal,
     }
 }
 

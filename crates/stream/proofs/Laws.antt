@@ -16,9 +16,10 @@ use Rattle.records.specs.Lines.{rLine}
 use Rattle.segv.specs.Row.{Slices, slices}
 use Rattle.modes.specs.declared.checking.Kind.{Kind}
 use Rattle.modes.specs.declared.checking.Mode.{Mode}
-use Rattle.modes.specs.declared.rows.RowAnswer.{RowAnswer}
-use Rattle.modes.specs.declared.rows.RowAnswer.the-variants.{Filled, Refused}
-use Rattle.modes.specs.Rows.{given, rowOf, blankSlices, rowOutcome, dlmfOf, dlmfOutcome}
+use Rattle.modes.specs.declared.answers.SliceAnswer.{SliceAnswer}
+use Rattle.modes.specs.declared.answers.SliceAnswer.the-variants.{Filled, Refused}
+use Rattle.modes.specs.Answers.{given, sliceOutcome}
+use Rattle.modes.specs.Rows.{rowOf, blankSlices, rowOutcome, dlmfOf}
 use Rattle.modes.proofs.Laws.{Accepted}
 use Rattle.modes.proofs.Given.{given-filled, given-refused}
 use Rattle.modes.proofs.Filled.{filled}
@@ -35,7 +36,7 @@ put-same {a} {b} {f} {t} e p = subst (Put a b f t) e p
 -- ---- rows
 module _ (index : ℕ) (kind : Kind) (x : Mode) (allowance : ℕ) (v : List Float) (s : List ℕ) (w u : List Float)
     (hv : v ≡ replicate 200 #0) (hs : s ≡ replicate 200 0) (hw : w ≡ replicate 200 #0) (hu : u ≡ replicate 200 #0)
-    (r : RowAnswer) (after : Slices) (e : record { answer = r; after = after } ≡ rowOutcome (rowOf kind x allowance (slices v s w u))) where
+    (r : SliceAnswer) (after : Slices) (e : record { answer = r; after = after } ≡ rowOutcome (rowOf kind x allowance (slices v s w u))) where
   blank-is : slices v s w u ≡ blankSlices
   unfolding blankSlices
   blank-is = rw (hv, hs, hw, hu)
@@ -62,7 +63,7 @@ module _ (index : ℕ) (kind : Kind) (x : Mode) (allowance : ℕ) (v : List Floa
 
 -- ---- DLMF rows
 module _ (index : ℕ) (kind : Kind) (x : Mode) (allowance : ℕ) (v : List Float) (hv : v ≡ replicate 200 #0)
-    (r : RowAnswer) (after : List Float) (e : record { answer = r; after = after } ≡ dlmfOutcome (dlmfOf kind x allowance v)) where
+    (r : SliceAnswer) (after : List Float) (e : record { answer = r; after = after } ≡ sliceOutcome (dlmfOf kind x allowance v)) where
   dlmf-answer-is : r ≡ given (dlmfOf kind x allowance (replicate 200 #0) .number)
   dlmf-answer-is = ap (λ o. o .answer) e ∙ ap (λ (l : List Float). given (dlmfOf kind x allowance l .number)) hv
 

@@ -9,7 +9,7 @@ ghost use Rattle.stream.specs.Response.{vLines, dLines, rowText, dlmfTex
 use modes::Kind;
 use modes::Mode;
 use modes::Operation;
-use modes::RowAnswer;
+use modes::SliceAnswer;
 use records::Record;
 
 // No record's lines have more bytes: a row has at most 200 lines of 86.
@@ -110,7 +110,7 @@ fn respond_row(
         &mut uppers,
     );
     match answer {
-        RowAnswer::Filled => put_v_lines(
+        SliceAnswer::Filled => put_v_lines(
             &values,
             &steps,
             &lowers,
@@ -121,7 +121,7 @@ fn respond_row(
             out,
             at,
         ),
-        RowAnswer::Refused(refusal) => records::r_line(out, at, index, refusal),
+        SliceAnswer::Refused(refusal) => records::r_line(out, at, index, refusal),
     }
 }
 
@@ -140,7 +140,7 @@ fn respond_dlmf_row(
     let mut values = zero_doubles();
     let answer = modes::dlmf_row(kind, mode, allowance, &mut values);
     match answer {
-        RowAnswer::Filled => put_d_lines(
+        SliceAnswer::Filled => put_d_lines(
             &values,
             index,
             mode.m,
@@ -148,7 +148,7 @@ fn respond_dlmf_row(
             out,
             at,
         ),
-        RowAnswer::Refused(refusal) => records::r_line(out, at, index, refusal),
+        SliceAnswer::Refused(refusal) => records::r_line(out, at, index, refusal),
     }
 }
 

@@ -8,8 +8,8 @@ use Rattle.modes.proofs.rows.row.Tie as tie
 row-number-requires : tie.Need-row-number-requires
 row-number-requires c κs = search needs
 
-row-answer-requires : tie.Need-row-answer-requires
-row-answer-requires c κs = search needs
+slice-answer-requires : tie.Need-slice-answer-requires
+slice-answer-requires c κs = search needs
 
 same-length : tie.Need-same-length
 same-length c = search needs
@@ -24,14 +24,14 @@ same-length-4 : tie.Need-same-length-4
 same-length-4 c = search needs
 
 returns : tie.Need-returns
-returns c = rw (c .row-answer .ensures) (ap rowOutcome (c .before .before .before .before .before .before .before .before .before .row-number .ensures))
+returns c = rw (c .slice-answer .ensures) (ap rowOutcome (c .before .before .before .before .before .before .before .before .before .row-number .ensures))
 
 pub row-spec : {M : Type 1} → statement M
 row-spec =
     tie.close
     (tie.spec
     row-number-requires
-    row-answer-requires
+    slice-answer-requires
     same-length
     same-length-2
     same-length-3

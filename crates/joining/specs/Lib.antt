@@ -1,0 +1,4 @@
+pub mod Sums
+pub mod Kmn
+pub mod Qstar
+pub mod Cbk
