@@ -6,7 +6,7 @@ use lib.Dec.{eqb, ltb}
 use lib.Ieee.{Float, neg}
 use lib.ListN.{set}
 use Rattle.arith.specs.Double.{_⊕_, _⊖_, _⊗_, _⊘_, dbl, at, #0, #0·5, #1, #2, #1e-200}
-use Rattle.arith.specs.Powers.{power}
+use Rattle.arith.specs.Powers.{halfTo}
 use Rattle.expansion.specs.declared.sckb.Partial.{Partial}
 use Rattle.expansion.specs.Terms.{powerTermsOf}
 use Rattle.expansion.specs.Products.{rising, risingBy}
@@ -56,7 +56,7 @@ filled df m ip nm (suc left) k fac sw ck =
 
 -- the first `count` of nm coefficients
 unfoldable pub powers : List Float → ℕ → ℕ → ℕ → ℕ → List Float
-powers df m ip nm count = filled df m ip nm count 0 (neg (power #0·5 m)) #0 blank
+powers df m ip nm count = filled df m ip nm count 0 (neg (halfTo m)) #0 blank
 
 -- all of them
 unfoldable pub sckb : List Float → ℕ → ℕ → Float → List Float

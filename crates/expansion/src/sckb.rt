@@ -98,7 +98,7 @@ fn regulator(m: u32, nm: u32) -> f64
 
 // The first `count` of nm coefficients.
 fn powers(df: &[f64; 200], m: u32, ip: u32, nm: u32, count: u32) -> Places
-    requires { ⌜ (m < 1000) × (ip < 2) × (nm < 200) × (count ≤ nm) ⌝ }
+    requires { ⌜ (m < 200) × (ip < 2) × (nm < 200) × (count ≤ nm) ⌝ }
     ensures { λ x. ⌜ x ≡ Sckb.powers (now (df .entry)) m ip nm count ⌝ }
 {
     let reg = regulator(m, nm);

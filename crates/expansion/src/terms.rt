@@ -1,7 +1,7 @@
 // How far the sums over expansion coefficients run.
 ghost use mathlib.Core.Path.{_≡_};
 ghost use mathlib.Core.Bool.{true, false};
-ghost use Prim.Native.Nat.{_<_};
+ghost use Prim.Native.Nat.{_<_, _≤_};
 ghost use lib.Ieee.{lt};
 ghost use Rattle.arith.specs.Double.{#0};
 ghost use Rattle.expansion.specs.Terms as Terms;
@@ -10,7 +10,7 @@ ghost use Rattle.expansion.specs.Terms as Terms;
 pub fn terms(offset: u32, c: f64) -> u32
     requires { ⌜ (lt c #0 ≡ false) × (lt (Terms.halfSum offset c) Terms.#175 ≡ true) ⌝ }
     ensures { λ r. ⌜ r ≡ Terms.termsOf offset c ⌝ }
-    ensures { λ r. ⌜ r < 200 ⌝ }
+    ensures { λ r. ⌜ (25 ≤ r) × (r < 200) ⌝ }
 {
     25 + (arith::truncate((offset as f64) / 2.0 + c) as u32)
 }
@@ -29,7 +29,7 @@ fn clamped(c: f64) -> f64
 pub fn power_terms(offset: u32, c: f64) -> u32
     requires { ⌜ (offset < 200) × (lt c #0 ≡ false) × (lt (Terms.halfSum offset c) Terms.#175 ≡ true) ⌝ }
     ensures { λ r. ⌜ r ≡ Terms.powerTermsOf offset c ⌝ }
-    ensures { λ r. ⌜ r < 200 ⌝ }
+    ensures { λ r. ⌜ (25 ≤ r) × (r < 200) ⌝ }
 {
     terms(offset, clamped(c))
 }

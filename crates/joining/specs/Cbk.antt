@@ -1,12 +1,13 @@
 -- The disc's own coefficients (`cbk`), with the names of the source. Definitions only.
-use Prim.Native.Nat.{ℕ, zero, suc, _+_, _-_, _*_, _%_}
+use Prim.Native.Nat.{ℕ, zero, suc, _+_, _-_, _%_, _≤_}
+use mathlib.Core.Path.{_≡_}
 use mathlib.Core.Bool.{Bool, true, false, cond}
 use mathlib.Core.List.{List}
 use lib.Dec.{eqb, ltb}
 use lib.IntN.{ℤ, pos, natAbs, _+ℤ_, _-ℤ_}
 use lib.Signed.{ltZ}
 use lib.Ieee.{Float, binary64, ofInt}
-use lib.ListN.{set}
+use lib.ListN.{set, replicate}
 use Rattle.arith.specs.Double.{_⊕_, _⊖_, _⊗_, _⊘_, dbl, at, #0, #1, #2}
 use Rattle.expansion.specs.Terms.{termsOf}
 use Rattle.expansion.specs.Sums.{blank}
@@ -57,6 +58,13 @@ rightSides ck m ip nm qt (suc left) k sw bk =
     let p = s1From ck m ip k (nm + 1 - firstIndex m k) (firstIndex m k) #0 sw in
     rightSides ck m ip nm qt left (suc k) (p .sw) (set bk k (qt ⊗ p .sum))
 
+-- r1 at i, from lo to nm, is kept in a list
+abbrev pub Holds : List Float → ℕ → ℕ → ℕ → ℕ → Type 0
+Holds r1 m k lo nm = (i : ℕ) → lo ≤ i → i ≤ nm → at r1 i ≡ r1At m i k
+
+unfoldable pub ones : List Float
+ones = replicate 200 #1
+
 -- ---- the elimination
 
 pub record Solved : Type 0 where
@@ -66,13 +74,17 @@ pub record Solved : Type 0 where
 abbrev pub solved : List Float → List Float → Solved
 solved w bk = record { w = w; bk = bk }
 
--- the first row, then rows up to the n-th after it
-unfoldable pub eliminated : ℕ → ℕ → Float → Float → List Float → ℕ → Solved
-eliminated m ip cv u bk zero = solved (set blank 0 (wAt ip 1 ⊘ vAt m ip cv 1)) (set bk 0 (at bk 0 ⊘ vAt m ip cv 1))
-eliminated m ip cv u bk (suc k) =
-    let s = eliminated m ip cv u bk k in
-    let t = vAt m ip cv (k + 2) ⊖ at (s .w) k ⊗ u in
-    solved (set (s .w) (suc k) (wAt ip (k + 2) ⊘ t)) (set (s .bk) (suc k) ((at (s .bk) (suc k) ⊖ at (s .bk) k ⊗ u) ⊘ t))
+-- n rows past the first
+unfoldable pub rows : ℕ → ℕ → Float → Float → ℕ → Solved → Solved
+rows m ip cv u zero s = s
+rows m ip cv u (suc k) s =
+    let r = rows m ip cv u k s in
+    let t = vAt m ip cv (k + 2) ⊖ at (r .w) k ⊗ u in
+    solved (set (r .w) (suc k) (wAt ip (k + 2) ⊘ t)) (set (r .bk) (suc k) ((at (r .bk) (suc k) ⊖ at (r .bk) k ⊗ u) ⊘ t))
+
+-- the first row and n more
+unfoldable pub eliminated : ℕ → ℕ → Float → Float → ℕ → List Float → Solved
+eliminated m ip cv u n bk = rows m ip cv u n (solved (set blank 0 (wAt ip 1 ⊘ vAt m ip cv 1)) (set bk 0 (at bk 0 ⊘ vAt m ip cv 1)))
 
 -- back from place k down
 unfoldable pub substituted : List Float → ℕ → List Float → List Float
@@ -85,5 +97,5 @@ cbk ck m n c cv qt =
     let ip = (n - m) % 2 in
     let nm = termsOf (n - m) c in
     let n2 = nm - 2 in
-    let s = eliminated m ip cv (c ⊗ c) (rightSides ck m ip nm qt n2 0 #0 blank) (n2 - 1) in
+    let s = eliminated m ip cv (c ⊗ c) (n2 - 1) (rightSides ck m ip nm qt n2 0 #0 blank) in
     substituted (s .w) (n2 - 1) (s .bk)

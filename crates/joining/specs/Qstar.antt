@@ -7,7 +7,7 @@ use lib.Ieee.{Float, neg}
 use lib.ListN.{set}
 use Rattle.arith.specs.Double.{_⊕_, _⊖_, _⊗_, _⊘_, dbl, at, #0, #1, #2}
 use Rattle.expansion.specs.Sums.{blank}
-use Rattle.joining.specs.declared.qstar.Qstar.{Qstar}
+use Rattle.joining.specs.declared.qstar.Factors.{Factors}
 
 -- the first n terms of the sum over k of ck(k) × ck(l − k)
 unfoldable pub skAt : List Float → ℕ → ℕ → Float
@@ -19,9 +19,9 @@ abbrev pub skOf : List Float → ℕ → Float
 skOf ck l = skAt ck l (l + 1)
 
 -- the first n terms of the sum over l, from 1 on, of sk(l) × ap(i − l)
-unfoldable pub sAt : List Float → List Float → ℕ → ℕ → Float
-sAt ck ap i zero = #0
-sAt ck ap i (suc n) = sAt ck ap i n ⊕ skOf ck (suc n) ⊗ at ap (i - suc n)
+unfoldable pub sAt : (ℕ → Float) → List Float → ℕ → ℕ → Float
+sAt sk ap i zero = #0
+sAt sk ap i (suc n) = sAt sk ap i n ⊕ sk (suc n) ⊗ at ap (i - suc n)
 
 abbrev pub rOf : List Float → Float
 rOf ck = #1 ⊘ (at ck 0 ⊗ at ck 0)
@@ -29,7 +29,7 @@ rOf ck = #1 ⊘ (at ck 0 ⊗ at ck 0)
 -- ap up to place i
 unfoldable pub apUpTo : List Float → ℕ → List Float
 apUpTo ck zero = set blank 0 (rOf ck)
-apUpTo ck (suc i) = set (apUpTo ck i) (suc i) (neg (rOf ck) ⊗ sAt ck (apUpTo ck i) (suc i) (suc i))
+apUpTo ck (suc i) = set (apUpTo ck i) (suc i) (neg (rOf ck) ⊗ sAt (λ l. skOf ck l) (apUpTo ck i) (suc i) (suc i))
 
 -- one factor more of the product r
 abbrev pub nextProduct : ℕ → ℕ → Float → Float
@@ -49,7 +49,7 @@ qs0At ap m ip (suc l) = qs0At ap m ip l ⊕ at ap (m - suc l) ⊗ productOf ip (
 unfoldable pub paritySign : ℕ → Float
 paritySign ip = cond (eqb ip 0) #1 (neg #1)
 
-unfoldable pub qstar : List Float → ℕ → ℕ → Float → Float → Qstar
+unfoldable pub qstar : List Float → ℕ → ℕ → Float → Float → Factors
 qstar ck m n c ck1 =
     let ip = (n - m) % 2 in
     let qs = paritySign ip ⊗ ck1 ⊗ (ck1 ⊗ qs0At (apUpTo ck m) m ip m) ⊘ c in

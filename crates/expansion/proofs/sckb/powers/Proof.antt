@@ -6,6 +6,7 @@ use native.Mathlib.Omega.{arith}
 use native.Mathlib.Numerals.{add-one}
 use native.Mathlib.Nat.{add-zero, sub-zero, add-assoc}
 use Rattle.expansion.specs.Sckb.{factorial, regulator, filled, powers}
+use Rattle.arith.proofs.Exact.{half-power}
 use Rattle.expansion.proofs.Laws.{filled-on}
 use Rattle.expansion.proofs.sckb.powers.Statement.{statement}
 use Rattle.expansion.proofs.sckb.powers.Tie as tie
@@ -30,7 +31,7 @@ factorial-requires c κs = search needs
 
 loop-holds : tie.Need-loop-holds Inv-loop μ-loop
 unfolding powers
-loop-holds c = (omega arith, rw (add-zero (c .before .before .before .before .args .m)) (c .factorial .ensures), rw (sub-zero (c .before .before .before .before .args .count), c .before .before .blank .ensures, c .before .power .ensures))
+loop-holds c = (omega arith, rw (add-zero (c .before .before .before .before .args .m)) (c .factorial .ensures), rw (sub-zero (c .before .before .before .before .args .count), c .before .before .blank .ensures, c .before .power .ensures, half-power (c .before .before .before .before .args .m) (omega arith)))
 
 sum-of-requires : tie.Need-sum-of-requires Inv-loop μ-loop
 sum-of-requires c κs = search needs

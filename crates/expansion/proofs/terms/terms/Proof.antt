@@ -18,7 +18,7 @@ add-result : tie.Need-add-result
 add-result c = let w = terms-whole (c .before .before .args .offset) (c .before .before .args .c) (c .truncate .result) (c .before .before .pre .0) (c .before .before .pre .1) (c .truncate .ensures) in rw (w .1) (omega (arith, w .2))
 
 returns : tie.Need-returns
-returns c = let w = terms-whole (c .before .before .args .offset) (c .before .before .args .c) (c .truncate .result) (c .before .before .pre .0) (c .before .before .pre .1) (c .truncate .ensures) in rw (w .1) (w .3, omega (arith, w .2))
+returns c = let w = terms-whole (c .before .before .args .offset) (c .before .before .args .c) (c .truncate .result) (c .before .before .pre .0) (c .before .before .pre .1) (c .truncate .ensures) in rw (w .1) (w .3, (omega arith, omega (arith, w .2)))
 
 pub terms-spec : {M : Type 1} → statement M
 terms-spec =

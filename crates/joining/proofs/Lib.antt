@@ -1,0 +1,4 @@
+-- Lemmas of the proofs.
+pub mod Laws
+pub mod Sweep
+pub mod Signed
