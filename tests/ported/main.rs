@@ -30,12 +30,34 @@ type Places = [f64; 200];
 unsafe extern "C" {
     safe fn routines_sdmn(m: u32, n: u32, c: f64, cv: f64, kd: f64, df: &mut Places);
     safe fn routines_sckb(df: &Places, m: u32, n: u32, c: f64, ck: &mut Places);
+    safe fn routines_kmn(df: &Places, m: u32, n: u32, c: f64) -> f64;
+    safe fn routines_qstar(
+        ck: &Places,
+        m: u32,
+        n: u32,
+        c: f64,
+        ck1: f64,
+        qs: &mut f64,
+        qt: &mut f64,
+    );
+    safe fn routines_cbk(
+        ck: &Places,
+        m: u32,
+        n: u32,
+        c: f64,
+        cv: f64,
+        qt: f64,
+        bk: &mut Places,
+    );
 }
 
 /// What every routine is held against, in the order in which the routines need each other.
 struct Tallies {
     sdmn: Tally,
     sckb: Tally,
+    kmn: Tally,
+    qstar: Tally,
+    cbk: Tally,
 }
 
 fn main() -> ExitCode {
@@ -51,6 +73,9 @@ fn main() -> ExitCode {
     let mut tallies = Tallies {
         sdmn: Tally::new("sdmn"),
         sckb: Tally::new("sckb"),
+        kmn: Tally::new("kmn"),
+        qstar: Tally::new("qstar"),
+        cbk: Tally::new("cbk"),
     };
     let Ok(known) = known_records() else {
         eprintln!("routines: {KNOWN_RECORDS} could not be read, so nothing was compared");
@@ -58,7 +83,7 @@ fn main() -> ExitCode {
     };
     for record in &known {
         if let Some(kind) = accepted(record) {
-            tallies.compare(kind, record);
+            tallies.compare_mode(kind, record);
         }
     }
     let mut generator = Generator::new(seed);
@@ -66,7 +91,7 @@ fn main() -> ExitCode {
     while compared < count {
         for record in generator.records(1000) {
             if let Some(kind) = accepted(&record).filter(|_| compared < count) {
-                tallies.compare(kind, &record);
+                tallies.compare_mode(kind, &record);
                 compared += 1;
             }
         }
@@ -91,19 +116,36 @@ fn accepted(record: &Record) -> Option<Kind> {
 }
 
 impl Tallies {
-    fn compare(&mut self, kind: Kind, record: &Record) {
+    fn compare_mode(&mut self, kind: Kind, record: &Record) {
         let (m, n) = (u32::from(record.m), u32::from(record.n));
         let kd = f64::from(kind.sign());
         let mut df = [0.0; 200];
         routines_sdmn(m, n, record.c, record.cv, kd, &mut df);
-        compare_places(&mut self.sdmn, record, &df, &answer::sdmn(kind, record));
+        compare(&mut self.sdmn, record, &df, &answer::sdmn(kind, record));
         let mut ck = [0.0; 200];
         routines_sckb(&df, m, n, record.c, &mut ck);
-        compare_places(&mut self.sckb, record, &ck, &answer::sckb(record, &df));
+        compare(&mut self.sckb, record, &ck, &answer::sckb(record, &df));
+        if coefficient_refusal(record, Request::Radial).is_none() {
+            self.compare_disc(record, &df, &ck);
+        }
+    }
+
+    /// The routines of the disc, on the coefficients of either kind: those of a prolate mode are as
+    /// good a test as any.
+    fn compare_disc(&mut self, record: &Record, df: &Places, ck: &Places) {
+        let (m, n, c) = (u32::from(record.m), u32::from(record.n), record.c);
+        let ck1 = routines_kmn(df, m, n, c);
+        compare(&mut self.kmn, record, &[ck1], &[answer::kmn(record, df)]);
+        let [mut qs, mut qt] = [0.0; 2];
+        routines_qstar(ck, m, n, c, ck1, &mut qs, &mut qt);
+        compare(&mut self.qstar, record, &[qs, qt], &answer::qstar(record, ck1, ck));
+        let mut bk = [0.0; 200];
+        routines_cbk(ck, m, n, c, record.cv, qt, &mut bk);
+        compare(&mut self.cbk, record, &bk, &answer::cbk(record, qt, ck));
     }
 
     fn report(&self) -> ExitCode {
-        let all = [&self.sdmn, &self.sckb];
+        let all = [&self.sdmn, &self.sckb, &self.kmn, &self.qstar, &self.cbk];
         for tally in all {
             tally.print();
         }
@@ -118,7 +160,7 @@ impl Tallies {
 }
 
 /// One comparison is one call with all its places.
-fn compare_places(tally: &mut Tally, record: &Record, ours: &Places, theirs: &Places) {
+fn compare(tally: &mut Tally, record: &Record, ours: &[f64], theirs: &[f64]) {
     let differs = (0..ours.len()).find(|&at| !same(ours[at], theirs[at]));
     tally.count(differs.is_none(), || {
         let at = differs.unwrap_or(0);

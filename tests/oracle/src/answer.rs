@@ -70,6 +70,24 @@ pub fn sckb(record: &Record, df: &[f64]) -> [f64; 200] {
     unaltered::sckb_places(i32::from(record.m), i32::from(record.n), record.c, df)
 }
 
+/// The joining factor of the disc by `kmn`.
+pub fn kmn(record: &Record, df: &[f64]) -> f64 {
+    let (m, n) = (i32::from(record.m), i32::from(record.n));
+    unaltered::kmn_factor(m, n, record.c, record.cv, df)
+}
+
+/// qs and qt by `qstar`.
+pub fn qstar(record: &Record, ck1: f64, ck: &[f64]) -> [f64; 2] {
+    let (m, n) = (i32::from(record.m), i32::from(record.n));
+    unaltered::qstar_pair(m, n, record.c, ck1, ck).into()
+}
+
+/// The disc's coefficients by `cbk`.
+pub fn cbk(record: &Record, qt: f64, ck: &[f64]) -> [f64; 200] {
+    let (m, n) = (i32::from(record.m), i32::from(record.n));
+    unaltered::cbk_places(m, n, record.c, record.cv, qt, ck)
+}
+
 /// The next record of a stream, or the refusal that stops it; none at its end.
 pub fn next_record(stream: &mut &[u8]) -> Option<Result<Record, u8>> {
     let rest = *stream;
@@ -184,15 +202,13 @@ fn coefficient_lines(number: usize, record: &Record) -> String {
     if request.is_row() {
         return String::new();
     }
-    let (m, n) = (i32::from(record.m), i32::from(record.n));
-    let Record { c, cv, .. } = *record;
     let df = sdmn(request.kind(), record);
     let ck = sckb(record, &df);
     let mut lines = format!("sdmn {number}{}\nsckb {number}{}\n", words(&df), words(&ck));
     if request == Request::Radial {
-        let ck1 = unaltered::kmn_factor(m, n, c, cv, &df);
-        let (qs, qt) = unaltered::qstar_pair(m, n, c, ck1, &ck);
-        let bk = unaltered::cbk_places(m, n, c, cv, qt, &ck);
+        let ck1 = kmn(record, &df);
+        let [qs, qt] = qstar(record, ck1, &ck);
+        let bk = cbk(record, qt, &ck);
         lines += &format!("kmn {number}{}\n", words(&[ck1]));
         lines += &format!("qstar {number}{}\n", words(&[qs, qt]));
         lines += &format!("cbk {number}{}\n", words(&bk));
