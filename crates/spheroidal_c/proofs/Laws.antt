@@ -13,6 +13,6 @@ pub row-is : (a : Row.RowAnswer) (r : SliceAnswer) (after : Slices) (k : ℕ) �
     → answer k after ≡ a
 row-is a r after k e number = rw (number (a .number) (ap (λ o. o .answer) e), ap (λ o. o .after) e)
 
-pub dlmf-is : (a : Single) (r : SliceAnswer) (after : List Float) (k : ℕ) → record { answer = r; after = after } ≡ sliceOutcome a → ((j : ℕ) → r ≡ given j → k ≡ j)
+pub single-is : (a : Single) (r : SliceAnswer) (after : List Float) (k : ℕ) → record { answer = r; after = after } ≡ sliceOutcome a → ((j : ℕ) → r ≡ given j → k ≡ j)
     → single k after ≡ a
-dlmf-is a r after k e number = rw (number (a .number) (ap (λ o. o .answer) e), ap (λ o. o .after) e)
+single-is a r after k e number = rw (number (a .number) (ap (λ o. o .answer) e), ap (λ o. o .after) e)

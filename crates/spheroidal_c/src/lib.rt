@@ -1,4 +1,4 @@
-// Rows as C and Rust callers link them. Each function answers document 01's refusal number, or 0,
+// Rows and coefficients as C and Rust callers link them. Each function answers document 01's refusal number, or 0,
 // and asks nothing: a slice that is too short is refused 9 and stays as it was.
 ghost use mathlib.Core.Path.{_≡_};
 ghost use Prim.Native.Nat.{ℕ};
@@ -6,6 +6,7 @@ ghost use Rattle.segv.specs.Row.{slices, answer};
 ghost use Rattle.modes.specs.declared.checking.Kind.the-variants.{Prolate, Oblate};
 ghost use Rattle.modes.specs.Rows.{rowOf, dlmfOf};
 ghost use Rattle.modes.specs.Answers.{single, given};
+ghost use Rattle.modes.specs.Coefficients.{coefficientsOf};
 use modes::Kind;
 use modes::Mode;
 use modes::SliceAnswer;
@@ -39,6 +40,12 @@ fn dlmf_row(kind: Kind, mode: Mode, allowance: u16, values: &mut [f64]) -> u8
     ensures { λ r. ⌜ single r (now (values .exit)) ≡ dlmfOf kind mode allowance (now (values .entry)) ⌝ }
 {
     number(modes::dlmf_row(kind, mode, allowance, values))
+}
+
+fn coefficients(kind: Kind, mode: Mode, cv: f64, values: &mut [f64]) -> u8
+    ensures { λ r. ⌜ single r (now (values .exit)) ≡ coefficientsOf kind mode cv (now (values .entry)) ⌝ }
+{
+    number(modes::coefficients(kind, mode, cv, values))
 }
 
 // The characteristic values of the modes from m to n, each with its step number and its bracket.
@@ -117,4 +124,31 @@ pub extern "C" fn spheroidal_oblate_dlmf_row(
     ensures { λ r. ⌜ single r (now (values .exit)) ≡ dlmfOf Oblate (record { m = m; n = n; c = c }) allowance (now (values .entry)) ⌝ }
 {
     dlmf_row(Kind::Oblate, Mode { m, n, c }, allowance, values)
+}
+
+// The 200 expansion coefficients of a mode with the characteristic value cv.
+#[no_mangle]
+pub extern "C" fn spheroidal_prolate_coefficients(
+    m: u16,
+    n: u16,
+    c: f64,
+    cv: f64,
+    values: &mut [f64],
+) -> u8
+    ensures { λ r. ⌜ single r (now (values .exit)) ≡ coefficientsOf Prolate (record { m = m; n = n; c = c }) cv (now (values .entry)) ⌝ }
+{
+    coefficients(Kind::Prolate, Mode { m, n, c }, cv, values)
+}
+
+#[no_mangle]
+pub extern "C" fn spheroidal_oblate_coefficients(
+    m: u16,
+    n: u16,
+    c: f64,
+    cv: f64,
+    values: &mut [f64],
+) -> u8
+    ensures { λ r. ⌜ single r (now (values .exit)) ≡ coefficientsOf Oblate (record { m = m; n = n; c = c }) cv (now (values .entry)) ⌝ }
+{
+    coefficients(Kind::Oblate, Mode { m, n, c }, cv, values)
 }
