@@ -51,6 +51,25 @@ unsafe extern "C" {
     );
 }
 
+unsafe extern "C" {
+    fn spheroidal_prolate_coefficients(
+        m: u16,
+        n: u16,
+        c: f64,
+        cv: f64,
+        values: *mut f64,
+        length: usize,
+    ) -> u8;
+    fn spheroidal_oblate_coefficients(
+        m: u16,
+        n: u16,
+        c: f64,
+        cv: f64,
+        values: *mut f64,
+        length: usize,
+    ) -> u8;
+}
+
 /// What every routine is held against, in the order in which the routines need each other.
 struct Tallies {
     sdmn: Tally,
@@ -58,6 +77,7 @@ struct Tallies {
     kmn: Tally,
     qstar: Tally,
     cbk: Tally,
+    coefficients: Tally,
 }
 
 fn main() -> ExitCode {
@@ -76,12 +96,14 @@ fn main() -> ExitCode {
         kmn: Tally::new("kmn"),
         qstar: Tally::new("qstar"),
         cbk: Tally::new("cbk"),
+        coefficients: Tally::new("coefficients, refusals included"),
     };
     let Ok(known) = known_records() else {
         eprintln!("routines: {KNOWN_RECORDS} could not be read, so nothing was compared");
         return ExitCode::from(2);
     };
     for record in &known {
+        tallies.compare_coefficients(record);
         if let Some(kind) = accepted(record) {
             tallies.compare_mode(kind, record);
         }
@@ -90,6 +112,9 @@ fn main() -> ExitCode {
     let mut compared = 0;
     while compared < count {
         for record in generator.records(1000) {
+            if compared < count {
+                tallies.compare_coefficients(&record);
+            }
             if let Some(kind) = accepted(&record).filter(|_| compared < count) {
                 tallies.compare_mode(kind, &record);
                 compared += 1;
@@ -144,8 +169,38 @@ impl Tallies {
         compare(&mut self.cbk, record, &bk, &answer::cbk(record, qt, ck));
     }
 
+    /// The library's call, on slices that are too short, of 200 places and longer: the refusal or
+    /// the coefficients, and every place that is not to be written.
+    fn compare_coefficients(&mut self, record: &Record) {
+        let Some(request) = Request::of_operation(record.operation) else {
+            return;
+        };
+        let kind = request.kind();
+        let refusal = coefficient_refusal(record, Request::Angular(kind));
+        for length in [199, 200, 203] {
+            let mut values = vec![7.5; length];
+            let number = coefficients(kind, record, &mut values);
+            let mut expected = vec![7.5; length];
+            let refusal = refusal.or((length < 200).then_some(9));
+            if refusal.is_none() {
+                expected[..200].copy_from_slice(&answer::sdmn(kind, record));
+            }
+            let right = number == refusal.unwrap_or(0)
+                && values.iter().zip(&expected).all(|(&ours, &theirs)| same(ours, theirs));
+            self.coefficients
+                .count(right, || format!("{record}: {length} places, answer {number}"));
+        }
+    }
+
     fn report(&self) -> ExitCode {
-        let all = [&self.sdmn, &self.sckb, &self.kmn, &self.qstar, &self.cbk];
+        let all = [
+            &self.sdmn,
+            &self.sckb,
+            &self.kmn,
+            &self.qstar,
+            &self.cbk,
+            &self.coefficients,
+        ];
         for tally in all {
             tally.print();
         }
@@ -166,4 +221,14 @@ fn compare(tally: &mut Tally, record: &Record, ours: &[f64], theirs: &[f64]) {
         let at = differs.unwrap_or(0);
         format!("{record}: place {at} ours {} Rust {}", hex(ours[at]), hex(theirs[at]))
     });
+}
+
+fn coefficients(kind: Kind, record: &Record, values: &mut [f64]) -> u8 {
+    let Record { m, n, c, cv, .. } = *record;
+    let call = match kind {
+        Kind::Prolate => spheroidal_prolate_coefficients,
+        Kind::Oblate => spheroidal_oblate_coefficients,
+    };
+    // SAFETY: the pointer and the length are those of one slice.
+    unsafe { call(m, n, c, cv, values.as_mut_ptr(), values.len()) }
 }

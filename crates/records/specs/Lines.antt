@@ -29,6 +29,18 @@ vLine index mode steps value lower upper = ascii "V" ++ number index ++ number m
 abbrev pub dLine : ℕ → ℕ → Float → List ℕ
 dLine index mode value = ascii "D" ++ number index ++ number mode ++ double value ++ newline
 
+-- a value and its derivative
+abbrev pub pair : Float → Float → List ℕ
+pair value derivative = double value ++ double derivative
+
+-- `A`: the angular pair of a mode
+abbrev pub aLine : ℕ → ℕ → ℕ → Float → Float → List ℕ
+aLine index m n value derivative = ascii "A" ++ number index ++ number m ++ number n ++ pair value derivative ++ newline
+
+-- `F`: value and derivative of a mode's first radial kind, then of its second
+abbrev pub fLine : ℕ → ℕ → ℕ → Float → Float → Float → Float → List ℕ
+fLine index m n value1 derivative1 value2 derivative2 = ascii "F" ++ number index ++ number m ++ number n ++ pair value1 derivative1 ++ pair value2 derivative2 ++ newline
+
 -- `R`: a refusal
 abbrev pub rLine : ℕ → ℕ → List ℕ
 rLine index refusal = ascii "R" ++ number index ++ number refusal ++ newline

@@ -1,11 +1,11 @@
 // The lines that the program writes, into the caller's slice. Each function puts its line at a place
 // and answers the place after it. It asks for room for the longest line of its kind.
 ghost use mathlib.Core.Path.{_≡_};
-ghost use mathlib.Core.List.{_∷_};
+ghost use mathlib.Core.List.{_∷_, _++_};
 ghost use Prim.Native.Nat.{_+_, _≤_};
 ghost use lib.ListN.{length};
 ghost use Rattle.records.specs.Text.{Put};
-ghost use Rattle.records.specs.Lines.{number, double, vLine, dLine, rLine, bracket};
+ghost use Rattle.records.specs.Lines.{number, double, vLine, dLine, aLine, fLine, rLine, bracket, pair};
 use super::text;
 
 // A space and a number.
@@ -79,6 +79,68 @@ pub fn d_line(out: &mut [u8], at: usize, index: u64, mode: u16, value: f64) -> u
     let a = start(out, at, b'D', index);
     let b = number(out, a, mode as u64);
     let c = double(out, b, value);
+    text::byte(out, c, b'\n')
+}
+
+// A line's letter, the number of its record, and the mode.
+fn start_of_mode(out: &mut [u8], at: usize, letter: u8, index: u64, m: u16, n: u16) -> usize
+    requires { ⌜ at + 34 ≤ length (now out) ⌝ }
+    ensures { λ r. ⌜ Put (now (out .entry)) (now (out .exit)) at r (letter ∷ number index ++ number m ++ number n) ⌝ }
+    ensures { λ r. ⌜ r ≤ at + 34 ⌝ }
+{
+    let a = start(out, at, letter, index);
+    let b = number(out, a, m as u64);
+    number(out, b, n as u64)
+}
+
+// A value and its derivative.
+fn pair(out: &mut [u8], at: usize, value: f64, derivative: f64) -> usize
+    requires { ⌜ at + 34 ≤ length (now out) ⌝ }
+    ensures { λ r. ⌜ Put (now (out .entry)) (now (out .exit)) at r (pair value derivative) ⌝ }
+    ensures { λ r. ⌜ r ≡ at + 34 ⌝ }
+{
+    let a = double(out, at, value);
+    double(out, a, derivative)
+}
+
+// The line of an angular pair.
+pub fn a_line(
+    out: &mut [u8],
+    at: usize,
+    index: u64,
+    m: u16,
+    n: u16,
+    value: f64,
+    derivative: f64,
+) -> usize
+    requires { ⌜ at + 69 ≤ length (now out) ⌝ }
+    ensures { λ r. ⌜ Put (now (out .entry)) (now (out .exit)) at r (aLine index m n value derivative) ⌝ }
+    ensures { λ r. ⌜ r ≤ at + 69 ⌝ }
+{
+    let a = start_of_mode(out, at, b'A', index, m, n);
+    let b = pair(out, a, value, derivative);
+    text::byte(out, b, b'\n')
+}
+
+// The line of both radial kinds.
+pub fn f_line(
+    out: &mut [u8],
+    at: usize,
+    index: u64,
+    m: u16,
+    n: u16,
+    value1: f64,
+    derivative1: f64,
+    value2: f64,
+    derivative2: f64,
+) -> usize
+    requires { ⌜ at + 103 ≤ length (now out) ⌝ }
+    ensures { λ r. ⌜ Put (now (out .entry)) (now (out .exit)) at r (fLine index m n value1 derivative1 value2 derivative2) ⌝ }
+    ensures { λ r. ⌜ r ≤ at + 103 ⌝ }
+{
+    let a = start_of_mode(out, at, b'F', index, m, n);
+    let b = pair(out, a, value1, derivative1);
+    let c = pair(out, b, value2, derivative2);
     text::byte(out, c, b'\n')
 }
 
