@@ -16,7 +16,7 @@ use std::process::ExitCode;
 
 use generator::Generator;
 use known::Input;
-use oracle::answer;
+use oracle::answer::{self, Build};
 use oracle::reading::coefficient_refusal;
 use oracle::record::{Kind, Record, Request, hex, same};
 use tally::Tally;
@@ -30,12 +30,27 @@ type Places = [f64; 200];
 unsafe extern "C" {
     safe fn routines_sdmn(m: u32, n: u32, c: f64, cv: f64, kd: f64, df: &mut Places);
     safe fn routines_sckb(df: &Places, m: u32, n: u32, c: f64, ck: &mut Places);
+    safe fn routines_aswfa(
+        m: u32,
+        n: u32,
+        c: f64,
+        cv: f64,
+        kd: f64,
+        x: f64,
+        value: &mut f64,
+        derivative: &mut f64,
+    );
 }
+
+/// Where the unaltered Rust follows the power rule too.
+const UNALTERED_AT: [f64; 4] = [0.0, -0.0, 1.0, -1.0];
 
 /// What every routine is held against, in the order in which the routines need each other.
 struct Tallies {
     sdmn: Tally,
     sckb: Tally,
+    aswfa: Tally,
+    unaltered_aswfa: Tally,
 }
 
 fn main() -> ExitCode {
@@ -51,6 +66,8 @@ fn main() -> ExitCode {
     let mut tallies = Tallies {
         sdmn: Tally::new("sdmn"),
         sckb: Tally::new("sckb"),
+        aswfa: Tally::new("aswfa by the power rule"),
+        unaltered_aswfa: Tally::new("aswfa unaltered, at 0 and 1"),
     };
     let Ok(known) = known_records() else {
         eprintln!("routines: {KNOWN_RECORDS} could not be read, so nothing was compared");
@@ -100,10 +117,17 @@ impl Tallies {
         let mut ck = [0.0; 200];
         routines_sckb(&df, m, n, record.c, &mut ck);
         compare_places(&mut self.sckb, record, &ck, &answer::sckb(record, &df));
+        for x in [record.x, -record.x] {
+            compare_pair(&mut self.aswfa, Build::PowerRule, kind, record, x);
+        }
+        for x in UNALTERED_AT {
+            compare_pair(&mut self.aswfa, Build::PowerRule, kind, record, x);
+            compare_pair(&mut self.unaltered_aswfa, Build::Unaltered, kind, record, x);
+        }
     }
 
     fn report(&self) -> ExitCode {
-        let all = [&self.sdmn, &self.sckb];
+        let all = [&self.sdmn, &self.sckb, &self.aswfa, &self.unaltered_aswfa];
         for tally in all {
             tally.print();
         }
@@ -123,5 +147,19 @@ fn compare_places(tally: &mut Tally, record: &Record, ours: &Places, theirs: &Pl
     tally.count(differs.is_none(), || {
         let at = differs.unwrap_or(0);
         format!("{record}: place {at} ours {} Rust {}", hex(ours[at]), hex(theirs[at]))
+    });
+}
+
+/// The pair at x, which need not be the record's: the routine is defined for every x.
+fn compare_pair(tally: &mut Tally, build: Build, kind: Kind, record: &Record, x: f64) {
+    let (m, n) = (u32::from(record.m), u32::from(record.n));
+    let kd = f64::from(kind.sign());
+    let [mut value, mut derivative] = [0.0; 2];
+    routines_aswfa(m, n, record.c, record.cv, kd, x, &mut value, &mut derivative);
+    let theirs = answer::aswfa(build, kind, record, x);
+    let agrees = same(value, theirs[0]) && same(derivative, theirs[1]);
+    tally.count(agrees, || {
+        let ours = [value, derivative].map(hex);
+        format!("{record} at {}: ours {ours:?} Rust {:?}", hex(x), theirs.map(hex))
     });
 }

@@ -4,6 +4,7 @@ ghost use mathlib.Core.Path.{_≡_};
 ghost use Rattle.expansion.specs.Terms.{Usable};
 ghost use Rattle.expansion.specs.Sdmn as Sdmn;
 ghost use Rattle.expansion.specs.Sckb as Sckb;
+ghost use Rattle.angular.specs.Aswfa as Aswfa;
 
 // kd is 1 or -1.
 #[no_mangle]
@@ -20,4 +21,24 @@ pub extern "C" fn routines_sckb(df: &[f64; 200], m: u32, n: u32, c: f64, ck: &mu
     ensures { λ _. ⌜ now (ck .exit) ≡ Sckb.sckb (now (df .entry)) m n c ⌝ }
 {
     *ck = expansion::sckb::sckb(df, m, n, c);
+}
+
+#[no_mangle]
+pub extern "C" fn routines_aswfa(
+    m: u32,
+    n: u32,
+    c: f64,
+    cv: f64,
+    kd: f64,
+    x: f64,
+    value: &mut f64,
+    derivative: &mut f64,
+)
+    requires { ⌜ Usable m n c ⌝ }
+    ensures { λ _. ⌜ now (value .exit) ≡ Aswfa.aswfa m n c cv kd x .value ⌝ }
+    ensures { λ _. ⌜ now (derivative .exit) ≡ Aswfa.aswfa m n c cv kd x .derivative ⌝ }
+{
+    let p = angular::aswfa::aswfa(m, n, c, cv, kd, x);
+    *value = p.value;
+    *derivative = p.derivative;
 }
