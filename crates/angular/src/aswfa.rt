@@ -23,7 +23,7 @@ fn a0_of(m: u32, x1: f64) -> f64
 
 // The derivative at |x| = 1.
 fn derivative_at_one(ck: &[f64; 200], m: u32, ip: u32) -> f64
-    ensures { λ r. ⌜ r ≡ Aswfa.atOne (now (ck .entry)) m ip ⌝ }
+    ensures { λ r. ⌜ r ≡ Aswfa.derivativeAtOne (now (ck .entry)) m ip ⌝ }
 {
     if m == 0 {
         return (ip as f64) * ck[0] - 2.0 * ck[1];
@@ -49,23 +49,23 @@ fn derivative_inside(
     su1: f64,
 ) -> f64
     requires { ⌜ (ip < 2) × (1 ≤ nm2) × (nm2 < 200) ⌝ }
-    ensures { λ r. ⌜ r ≡ Aswfa.inside (now (ck .entry)) m ip nm2 x x1 a0 su1 ⌝ }
+    ensures { λ r. ⌜ r ≡ Aswfa.derivativeInside (now (ck .entry)) m ip nm2 x x1 a0 su1 ⌝ }
 {
     let xp = arith::power(x, ip + 1);
     let d0 = (ip as f64) - (m as f64) / x1 * xp;
     let d1 = -2.0 * a0 * xp;
-    let su2 = super::sums::sum_derivative(ck, x1, nm2);
+    let su2 = super::sums::su2_of(ck, x1, nm2);
     d0 * a0 * su1 + d1 * su2
 }
 
 // The pair before its signs; x is the absolute value of the argument.
-fn unsigned(ck: &[f64; 200], m: u32, ip: u32, nm2: u32, x: f64) -> Pair
+fn before_signs(ck: &[f64; 200], m: u32, ip: u32, nm2: u32, x: f64) -> Pair
     requires { ⌜ (ip < 2) × (1 ≤ nm2) × (nm2 < 200) ⌝ }
-    ensures { λ r. ⌜ r ≡ Aswfa.unsigned (now (ck .entry)) m ip nm2 x ⌝ }
+    ensures { λ r. ⌜ r ≡ Aswfa.beforeSigns (now (ck .entry)) m ip nm2 x ⌝ }
 {
     let x1 = 1.0 - x * x;
     let a0 = a0_of(m, x1);
-    let su1 = super::sums::sum_value(ck, x1, nm2);
+    let su1 = super::sums::su1_of(ck, x1, nm2);
     let s1f = a0 * arith::power(x, ip) * su1;
     if x == 1.0 {
         return Pair {
@@ -99,10 +99,10 @@ pub fn aswfa(m: u32, n: u32, c: f64, cv: f64, kd: f64, x: f64) -> Pair
     ensures { λ r. ⌜ r ≡ Aswfa.aswfa m n c cv kd x ⌝ }
 {
     let ip = (n - m) % 2;
-    let nm2 = super::limit::last_term(n - m, c);
+    let nm2 = super::limit::nm2_of(n - m, c);
     let df = expansion::sdmn::sdmn(m, n, c, cv, kd);
     let ck = expansion::sckb::sckb_first(&df, m, n, c, nm2 + 1);
-    let p = unsigned(&ck, m, ip, nm2, arith::abs(x));
+    let p = before_signs(&ck, m, ip, nm2, arith::abs(x));
     Pair {
         value: sign_at(x, ip == 1, p.value),
         derivative: sign_at(x, ip == 0, p.derivative),

@@ -1,5 +1,5 @@
 // The angular function of a mode and its derivative: the source's `aswfa`. Both kinds and both
 // parities go through the same functions.
 pub mod aswfa;
-pub mod limit;
-pub mod sums;
+mod limit;
+mod sums;

@@ -8,7 +8,7 @@ ghost use Rattle.expansion.specs.Terms as Terms;
 ghost use Rattle.angular.specs.Aswfa as Aswfa;
 
 // The last term's number, for n - m and c. It halves n - m as a whole number, unlike `sdmn`.
-pub(crate) fn last_term(offset: u32, c: f64) -> u32
+pub(crate) fn nm2_of(offset: u32, c: f64) -> u32
     requires { ⌜ (offset < 200) × (lt c #0 ≡ false) × (lt (Terms.halfSum offset c) Terms.#175 ≡ true) ⌝ }
     ensures { λ r. ⌜ r ≡ Aswfa.nm2Of offset c ⌝ }
     ensures { λ r. ⌜ (18 ≤ r) × (r < 106) ⌝ }

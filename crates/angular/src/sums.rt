@@ -3,9 +3,9 @@ ghost use mathlib.Core.Path.{_≡_};
 ghost use Prim.Native.Nat.{_<_, _≤_};
 ghost use Rattle.angular.specs.Aswfa as Aswfa;
 
-// Whether a sum ends with its term r for k: from k = 10 on, where r is below 1e-14 of the sum.
-fn settled(k: u32, r: f64, su: f64) -> bool
-    ensures { λ b. ⌜ b ≡ Aswfa.settled k r su ⌝ }
+// The stopping test of a sum after its term r for k: k is at least 10 and r below 1e-14 of the sum.
+fn converged(k: u32, r: f64, su: f64) -> bool
+    ensures { λ b. ⌜ b ≡ Aswfa.converged k r su ⌝ }
 {
     if k < 10 {
         return false;
@@ -13,8 +13,8 @@ fn settled(k: u32, r: f64, su: f64) -> bool
     arith::abs(r / su) < 1e-14
 }
 
-// The sum of the value.
-pub(crate) fn sum_value(ck: &[f64; 200], x1: f64, nm2: u32) -> f64
+// The sum of the value: ck[k] times the k-th power of x1.
+pub(crate) fn su1_of(ck: &[f64; 200], x1: f64, nm2: u32) -> f64
     requires { ⌜ nm2 < 200 ⌝ }
     ensures { λ r. ⌜ r ≡ Aswfa.su1Of (now (ck .entry)) x1 nm2 ⌝ }
 {
@@ -24,7 +24,7 @@ pub(crate) fn sum_value(ck: &[f64; 200], x1: f64, nm2: u32) -> f64
     while k <= nm2 {
         let r = ck[k as usize] * p;
         su1 = su1 + r;
-        if settled(k, r, su1) {
+        if converged(k, r, su1) {
             return su1;
         }
         p = p * x1;
@@ -33,8 +33,8 @@ pub(crate) fn sum_value(ck: &[f64; 200], x1: f64, nm2: u32) -> f64
     su1
 }
 
-// The sum of the derivative.
-pub(crate) fn sum_derivative(ck: &[f64; 200], x1: f64, nm2: u32) -> f64
+// The sum of the derivative: k times ck[k] times the power of x1 below the k-th.
+pub(crate) fn su2_of(ck: &[f64; 200], x1: f64, nm2: u32) -> f64
     requires { ⌜ (1 ≤ nm2) × (nm2 < 200) ⌝ }
     ensures { λ r. ⌜ r ≡ Aswfa.su2Of (now (ck .entry)) x1 nm2 ⌝ }
 {
@@ -44,7 +44,7 @@ pub(crate) fn sum_derivative(ck: &[f64; 200], x1: f64, nm2: u32) -> f64
     while k <= nm2 {
         let r = (k as f64) * ck[k as usize] * p;
         su2 = su2 + r;
-        if settled(k, r, su2) {
+        if converged(k, r, su2) {
             return su2;
         }
         p = p * x1;

@@ -8,11 +8,11 @@ use Rattle.angular.proofs.aswfa.aswfa.Tie as tie
 sub-ip : tie.Need-sub-ip
 sub-ip c = search needs
 
-sub-last-term : tie.Need-sub-last-term
-sub-last-term c = search needs
+sub-nm2-of : tie.Need-sub-nm2-of
+sub-nm2-of c = search needs
 
-last-term-requires : tie.Need-last-term-requires
-last-term-requires c κs = search needs
+nm2-of-requires : tie.Need-nm2-of-requires
+nm2-of-requires c κs = search needs
 
 sdmn-requires : tie.Need-sdmn-requires
 sdmn-requires c κs = search needs
@@ -26,8 +26,8 @@ sckb-first-requires c κs = search needs
 abs-requires : tie.Need-abs-requires
 abs-requires c κs = search needs
 
-unsigned-requires : tie.Need-unsigned-requires
-unsigned-requires c κs = search needs
+before-signs-requires : tie.Need-before-signs-requires
+before-signs-requires c κs = search needs
 
 sign-at-requires : tie.Need-sign-at-requires
 sign-at-requires c κs = search needs
@@ -38,20 +38,20 @@ sign-at-requires-2 c κs = search needs
 returns : tie.Need-returns
 returns c =
     let a = c .before .before .before .before .before .before .before .before .before .args in
-    aswfa-is (a .m) (a .n) (a .c) (a .cv) (a .kd) (a .x) (c .before .before .before .before .before .before .before .before .last-term .result) _ _ _ (c .before .before .unsigned .result) _ _ (c .before .before .before .before .before .before .before .before .last-term .ensures .0) (omega arith) (c .before .before .before .before .before .before .before .sdmn .ensures) (c .before .before .before .before .before .sckb-first .ensures) (c .before .before .before .abs .ensures) (c .before .before .unsigned .ensures) (c .before .sign-at .ensures) (c .sign-at2 .ensures)
+    aswfa-is (a .m) (a .n) (a .c) (a .cv) (a .kd) (a .x) (c .before .before .before .before .before .before .before .before .nm2-of .result) _ _ _ (c .before .before .before-signs .result) _ _ (c .before .before .before .before .before .before .before .before .nm2-of .ensures .0) (omega arith) (c .before .before .before .before .before .before .before .sdmn .ensures) (c .before .before .before .before .before .sckb-first .ensures) (c .before .before .before .abs .ensures) (c .before .before .before-signs .ensures) (c .before .sign-at .ensures) (c .sign-at2 .ensures)
 
 pub aswfa-spec : {M : Type 1} → statement M
 aswfa-spec =
     tie.close
     (tie.spec
     sub-ip
-    sub-last-term
-    last-term-requires
+    sub-nm2-of
+    nm2-of-requires
     sdmn-requires
     add-sckb-first
     sckb-first-requires
     abs-requires
-    unsigned-requires
+    before-signs-requires
     sign-at-requires
     sign-at-requires-2
     returns)

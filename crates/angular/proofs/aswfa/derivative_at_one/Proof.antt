@@ -1,7 +1,7 @@
 -- `angular::aswfa::derivative_at_one` meets its contract. Assumes nothing.
 use borrow.Author.Needs.{needs}
 use borrow.Author.Tests.{eq-eqb, ne-eqb}
-use Rattle.angular.specs.Aswfa.{atOne}
+use Rattle.angular.specs.Aswfa.{derivativeAtOne}
 use Rattle.angular.proofs.aswfa.derivative_at_one.Statement.{statement}
 use Rattle.angular.proofs.aswfa.derivative_at_one.Tie as tie
 
@@ -15,22 +15,22 @@ element-copy-out-result-2 : tie.Need-element-copy-out-result-2
 element-copy-out-result-2 c = search needs
 
 returns : tie.Need-returns
-unfolding atOne
+unfolding derivativeAtOne
 returns c = rw (eq-eqb _ _ (c .before .before .before .if1 .taken))
 
 returns-2 : tie.Need-returns-2
-unfolding atOne
+unfolding derivativeAtOne
 returns-2 c = rw (ne-eqb _ _ (c .before .if1 .left), eq-eqb _ _ (c .if2 .taken))
 
 element-copy-out-result-3 : tie.Need-element-copy-out-result-3
 element-copy-out-result-3 c = search needs
 
 returns-3 : tie.Need-returns-3
-unfolding atOne
+unfolding derivativeAtOne
 returns-3 c = rw (ne-eqb _ _ (c .before .before .before .if1 .left), ne-eqb _ _ (c .before .before .if2 .left), eq-eqb _ _ (c .before .if3 .taken))
 
 returns-4 : tie.Need-returns-4
-unfolding atOne
+unfolding derivativeAtOne
 returns-4 c = rw (ne-eqb _ _ (c .before .before .if1 .left), ne-eqb _ _ (c .before .if2 .left), ne-eqb _ _ (c .if3 .left))
 
 pub derivative-at-one-spec : {M : Type 1} → statement M

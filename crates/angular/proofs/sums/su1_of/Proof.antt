@@ -1,4 +1,4 @@
--- `angular::sums::sum_value` meets its contract. The invariant: what is left to add gives what the whole gives, and p is the k-th power of x1. Assumes nothing.
+-- `angular::sums::su1_of` meets its contract. The invariant: what is left to add gives what the whole gives, and p is the k-th power of x1. Assumes nothing.
 use borrow.Author.Needs.{needs}
 use Prim.Native.Nat.{suc, _-_, _≤_}
 use mathlib.Core.Path.{_≡_, refl, sym, _∙_}
@@ -8,8 +8,8 @@ use denote.Ref.{now}
 use Rattle.arith.specs.Powers.{power}
 use Rattle.angular.specs.Aswfa.{summed, valueTerm, su1Of}
 use Rattle.angular.proofs.Laws.{summed-stop, summed-on}
-use Rattle.angular.proofs.sums.sum_value.Statement.{statement}
-use Rattle.angular.proofs.sums.sum_value.Tie as tie
+use Rattle.angular.proofs.sums.su1_of.Statement.{statement}
+use Rattle.angular.proofs.sums.su1_of.Tie as tie
 
 abbrev Inv-loop : tie.InvT-loop
 Inv-loop ck x1 nm2 su1₀ p₀ k₀ su1 p k = (k ≤ suc nm2) × (p ≡ power x1 k) × (summed (valueTerm ck x1) (suc nm2 - k) k su1 ≡ su1Of ck x1 nm2)
@@ -33,15 +33,15 @@ mul-r c = search needs
 element-copy-out-r : tie.Need-element-copy-out-r Inv-loop μ-loop
 element-copy-out-r c = search needs
 
-settled-requires : tie.Need-settled-requires Inv-loop μ-loop
-settled-requires c κs = search needs
+converged-requires : tie.Need-converged-requires Inv-loop μ-loop
+converged-requires c κs = search needs
 
 returns : tie.Need-returns Inv-loop μ-loop
 returns c =
     let a = c .before .before .before .before .before .before .args in
     let l = c .before .before .before .before .loop in
     let h : suc (a .nm2) - l .k ≡ suc (a .nm2 - l .k) = omega arith in
-    summed-stop (valueTerm (now (a .ck)) (a .x1)) (a .nm2 - l .k) (l .k) _ (l .su1) (rw (l .inv .1)) (sym (c .before .settled .ensures) ∙ c .if1 .taken) ∙ rw h at (l .inv .2)
+    summed-stop (valueTerm (now (a .ck)) (a .x1)) (a .nm2 - l .k) (l .k) _ (l .su1) (rw (l .inv .1)) (sym (c .before .converged .ensures) ∙ c .if1 .taken) ∙ rw h at (l .inv .2)
 
 add-k : tie.Need-add-k Inv-loop μ-loop
 add-k c = search needs
@@ -59,15 +59,15 @@ loop-again c =
       omega arith,
       rw (add-one (l .k), l .inv .1),
       rw (add-one (l .k), h')
-          (summed-on (valueTerm (now (a .ck)) (a .x1)) (a .nm2 - l .k) (l .k) _ (l .su1) (rw (l .inv .1)) (sym (c .before .settled .ensures) ∙ c .if1 .left) ∙ rw h at (l .inv .2)),
+          (summed-on (valueTerm (now (a .ck)) (a .x1)) (a .nm2 - l .k) (l .k) _ (l .su1) (rw (l .inv .1)) (sym (c .before .converged .ensures) ∙ c .if1 .left) ∙ rw h at (l .inv .2)),
     )
 
 returns-2 : tie.Need-returns-2 Inv-loop μ-loop
 unfolding summed
 returns-2 c = let h : suc (c .before .before .before .args .nm2) - c .before .loop .k ≡ 0 = omega arith in rw h at (c .before .loop .inv .2)
 
-pub sum-value-spec : {M : Type 1} → statement M
-sum-value-spec =
+pub su1-of-spec : {M : Type 1} → statement M
+su1-of-spec =
     tie.close
     (tie.spec
     Inv-loop
@@ -77,7 +77,7 @@ sum-value-spec =
     cast-r
     mul-r
     element-copy-out-r
-    settled-requires
+    converged-requires
     returns
     add-k
     loop-less

@@ -1,4 +1,4 @@
--- `angular::sums::sum_derivative` meets its contract. The invariant: what is left to add gives what the whole gives, and p is the power of x1 below the k-th. Assumes nothing.
+-- `angular::sums::su2_of` meets its contract. The invariant: what is left to add gives what the whole gives, and p is the power of x1 below the k-th. Assumes nothing.
 use borrow.Author.Needs.{needs}
 use Prim.Native.Nat.{suc, _+_, _-_, _≤_}
 use mathlib.Core.Path.{_≡_, refl, sym, _∙_}
@@ -8,8 +8,8 @@ use denote.Ref.{now}
 use Rattle.arith.specs.Powers.{power}
 use Rattle.angular.specs.Aswfa.{summed, derivativeTerm, su2Of}
 use Rattle.angular.proofs.Laws.{summed-stop, summed-on}
-use Rattle.angular.proofs.sums.sum_derivative.Statement.{statement}
-use Rattle.angular.proofs.sums.sum_derivative.Tie as tie
+use Rattle.angular.proofs.sums.su2_of.Statement.{statement}
+use Rattle.angular.proofs.sums.su2_of.Tie as tie
 
 abbrev Inv-loop : tie.InvT-loop
 Inv-loop ck x1 nm2 su2₀ p₀ k₀ su2 p k = (2 ≤ k) × (k ≤ suc nm2) × (p ≡ power x1 (k - 1)) × (summed (derivativeTerm ck x1) (suc nm2 - k) k su2 ≡ su2Of ck x1 nm2)
@@ -33,15 +33,15 @@ mul-r c = search needs
 element-copy-out-r : tie.Need-element-copy-out-r Inv-loop μ-loop
 element-copy-out-r c = search needs
 
-settled-requires : tie.Need-settled-requires Inv-loop μ-loop
-settled-requires c κs = search needs
+converged-requires : tie.Need-converged-requires Inv-loop μ-loop
+converged-requires c κs = search needs
 
 returns : tie.Need-returns Inv-loop μ-loop
 returns c =
     let a = c .before .before .before .before .before .before .before .args in
     let l = c .before .before .before .before .before .loop in
     let h : suc (a .nm2) - l .k ≡ suc (a .nm2 - l .k) = omega arith in
-    summed-stop (derivativeTerm (now (a .ck)) (a .x1)) (a .nm2 - l .k) (l .k) _ (l .su2) (rw (l .inv .2)) (sym (c .before .settled .ensures) ∙ c .if1 .taken) ∙ rw h at (l .inv .3)
+    summed-stop (derivativeTerm (now (a .ck)) (a .x1)) (a .nm2 - l .k) (l .k) _ (l .su2) (rw (l .inv .2)) (sym (c .before .converged .ensures) ∙ c .if1 .taken) ∙ rw h at (l .inv .3)
 
 add-k : tie.Need-add-k Inv-loop μ-loop
 add-k c = search needs
@@ -61,15 +61,15 @@ loop-again c =
       omega arith,
       rw (g, l .inv .2),
       rw (add-one (l .k), h')
-          (summed-on (derivativeTerm (now (a .ck)) (a .x1)) (a .nm2 - l .k) (l .k) _ (l .su2) (rw (l .inv .2)) (sym (c .before .settled .ensures) ∙ c .if1 .left) ∙ rw h at (l .inv .3)),
+          (summed-on (derivativeTerm (now (a .ck)) (a .x1)) (a .nm2 - l .k) (l .k) _ (l .su2) (rw (l .inv .2)) (sym (c .before .converged .ensures) ∙ c .if1 .left) ∙ rw h at (l .inv .3)),
     )
 
 returns-2 : tie.Need-returns-2 Inv-loop μ-loop
 unfolding summed
 returns-2 c = let h : suc (c .before .before .before .args .nm2) - c .before .loop .k ≡ 0 = omega arith in rw h at (c .before .loop .inv .3)
 
-pub sum-derivative-spec : {M : Type 1} → statement M
-sum-derivative-spec =
+pub su2-of-spec : {M : Type 1} → statement M
+su2-of-spec =
     tie.close
     (tie.spec
     Inv-loop
@@ -79,7 +79,7 @@ sum-derivative-spec =
     int-to-float-r
     mul-r
     element-copy-out-r
-    settled-requires
+    converged-requires
     returns
     add-k
     loop-less

@@ -1,9 +1,9 @@
--- `angular::limit::last_term` meets its contract: the whole part of w + c is a whole number below 175. Assumes nothing.
+-- `angular::limit::nm2_of` meets its contract: the whole part of w + c is a whole number below 175. Assumes nothing.
 use borrow.Author.Needs.{needs}
 use native.Mathlib.Omega.{arith}
 use Rattle.angular.proofs.Halves.{limit-whole}
-use Rattle.angular.proofs.limit.last_term.Statement.{statement}
-use Rattle.angular.proofs.limit.last_term.Tie as tie
+use Rattle.angular.proofs.limit.nm2_of.Statement.{statement}
+use Rattle.angular.proofs.limit.nm2_of.Tie as tie
 
 int-to-float-truncate : tie.Need-int-to-float-truncate
 int-to-float-truncate c = search needs
@@ -23,6 +23,6 @@ sub-result c = let w = limit-whole (c .before .before .args .offset) (c .before 
 returns : tie.Need-returns
 returns c = let w = limit-whole (c .before .before .args .offset) (c .before .before .args .c) (c .truncate .result) (c .before .before .pre .0) (c .before .before .pre .1) (c .before .before .pre .2) (c .truncate .ensures) in rw (w .1) (w .3, (omega (arith, w .2), omega (arith, w .2)))
 
-pub last-term-spec : {M : Type 1} → statement M
-last-term-spec =
+pub nm2-of-spec : {M : Type 1} → statement M
+nm2-of-spec =
     tie.close (tie.spec int-to-float-truncate truncate-requires cast-nm add-nm sub-result returns)
