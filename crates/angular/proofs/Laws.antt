@@ -10,9 +10,9 @@ use lib.Ieee.{Float, eq}
 use Rattle.arith.specs.Double.{_⊕_, at, #0, #1}
 use Rattle.arith.specs.Choice.{abs}
 use Rattle.arith.specs.Powers.{power, halfPower}
-use Rattle.expansion.specs.Sums.{Agree}
 use Rattle.expansion.specs.Sdmn.{sdmn}
-use Rattle.expansion.specs.Sckb.{sckb}
+use Rattle.expansion.specs.Sckb.{sckb, sckbFirst}
+use Rattle.expansion.proofs.First.{Agree, first-agrees}
 use Rattle.angular.specs.declared.aswfa.Pair.{Pair}
 use Rattle.angular.specs.Aswfa.{a0Of, converged, summed, valueTerm, derivativeTerm, su1Of, su2Of, derivativeAtOne, derivativeInside, beforeSigns, signAt, aswfa, nm2Of}
 
@@ -71,7 +71,8 @@ module _ (xs ys : List Float) (nm2 : ℕ) (few : 1 ≤ nm2) (same : Agree (nm2 +
 
 -- ---- the pair from its parts
 pub aswfa-is : (m n : ℕ) (c cv kd x0 : Float) (nm2 : ℕ) (df ck : List Float) (x : Float) (p : Pair) (v d : Float) → nm2 ≡ nm2Of (n - m) c → 1 ≤ nm2 → df ≡ sdmn m n c cv kd
-    → Agree (nm2 + 1) ck (sckb df m n c) → x ≡ abs x0 → p ≡ beforeSigns ck m ((n - m) % 2) nm2 x → v ≡ signAt x0 (eqb ((n - m) % 2) 1) (p .value) → d ≡ signAt x0 (eqb ((n - m) % 2) 0) (p .derivative)
+    → ck ≡ sckbFirst df m n c (nm2 + 1) → x ≡ abs x0 → p ≡ beforeSigns ck m ((n - m) % 2) nm2 x → v ≡ signAt x0 (eqb ((n - m) % 2) 1) (p .value) → d ≡ signAt x0 (eqb ((n - m) % 2) 0) (p .derivative)
     → record { value = v; derivative = d } ≡ aswfa m n c cv kd x0
 unfolding aswfa
-aswfa-is m n c cv kd x0 nm2 df ck x p v d hn few hf same hx hp hv hd = rw (hv, hd, hp, before-signs-same ck (sckb df m n c) nm2 few same m ((n - m) % 2) x, hf, hx, hn)
+aswfa-is m n c cv kd x0 nm2 df ck x p v d hn few hf hc hx hp hv hd =
+    rw (hv, hd, hp, hc, before-signs-same (sckbFirst df m n c (nm2 + 1)) (sckb df m n c) nm2 few (first-agrees df m n c (nm2 + 1)) m ((n - m) % 2) x, hf, hx, hn)

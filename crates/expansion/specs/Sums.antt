@@ -1,11 +1,10 @@
 -- What the sums over expansion coefficients share. Definitions only.
-use Prim.Native.Nat.{ℕ, _<_}
-use mathlib.Core.Path.{_≡_}
+use Prim.Native.Nat.{ℕ}
 use mathlib.Core.Bool.{Bool}
 use mathlib.Core.List.{List}
 use lib.Ieee.{Float, lt}
 use lib.ListN.{replicate}
-use Rattle.arith.specs.Double.{_⊖_, _⊗_, at, #0, #1e-14}
+use Rattle.arith.specs.Double.{_⊖_, _⊗_, #0, #1e-14}
 use Rattle.arith.specs.Choice.{abs}
 
 -- a sum differs from the sum remembered, sw, by less than 1e-14 of itself
@@ -15,7 +14,3 @@ converged sw sum = lt (abs (sw ⊖ sum)) (abs sum ⊗ #1e-14)
 -- 200 places, unwritten ones zero
 unfoldable pub blank : List Float
 blank = replicate 200 #0
-
--- two lists have the same first `count` places
-abbrev pub Agree : ℕ → List Float → List Float → Type 0
-Agree count xs ys = (i : ℕ) → i < count → at xs i ≡ at ys i

@@ -1,7 +1,6 @@
 // The source's `sckb`: the coefficients of the powers of 1 - x^2, from the expansion coefficients.
 ghost use mathlib.Core.Path.{_≡_};
 ghost use Prim.Native.Nat.{_+_, _-_, _<_, _≤_, suc};
-ghost use Rattle.expansion.specs.Sums as Sums;
 ghost use Rattle.expansion.specs.Terms as Terms;
 ghost use Rattle.expansion.specs.Sckb as Sckb;
 use super::sums::Places;
@@ -129,11 +128,10 @@ pub fn sckb(df: &[f64; 200], m: u32, n: u32, c: f64) -> Places
     powers(df, m, (n - m) % 2, nm, nm)
 }
 
-// The coefficients of `sckb` in the first `count` places, for a caller that reads no others. These
-// are not computed: a place from `count` on may be zero instead.
+// The first `count` of these coefficients, for a caller that reads no others.
 pub fn sckb_first(df: &[f64; 200], m: u32, n: u32, c: f64, count: u32) -> Places
     requires { ⌜ Terms.Usable m n c ⌝ }
-    ensures { λ x. ⌜ Sums.Agree count x (Sckb.sckb (now (df .entry)) m n c) ⌝ }
+    ensures { λ x. ⌜ x ≡ Sckb.sckbFirst (now (df .entry)) m n c count ⌝ }
 {
     let nm = super::terms::power_terms(n - m, c);
     if count < nm {

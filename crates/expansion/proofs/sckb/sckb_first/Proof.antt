@@ -1,9 +1,9 @@
 -- `expansion::sckb::sckb_first` meets its contract. Assumes nothing.
 use borrow.Author.Needs.{needs}
-use Prim.Native.Nat.{_-_, _%_}
 use native.Mathlib.Omega.{arith}
-use Rattle.expansion.specs.Sckb as Sckb
-use Rattle.expansion.proofs.First.{powers-first}
+use mathlib.Core.Path.{_≡_}
+use Prim.Native.Nat.{min}
+use Rattle.expansion.specs.Sckb.{sckbFirst}
 use Rattle.expansion.proofs.sckb.sckb_first.Statement.{statement}
 use Rattle.expansion.proofs.sckb.sckb_first.Tie as tie
 
@@ -20,11 +20,11 @@ powers-requires : tie.Need-powers-requires
 powers-requires c κs = search needs
 
 returns : tie.Need-returns
-unfolding Sckb.sckb
+unfolding sckbFirst
 returns c =
-    let a = c .before .before .before .args in
     let nm = c .before .before .power-terms .result in
-    λ i l. rw (c .powers .ensures, ← c .before .before .power-terms .ensures .0) (powers-first _ (a .m) ((a .n - a .m) % 2) nm (a .count) nm (omega arith) i l)
+    let h : min (c .before .before .before .args .count) nm ≡ c .before .before .before .args .count = omega arith in
+    rw (← c .before .before .power-terms .ensures .0, h) (c .powers .ensures)
 
 sub-powers-2 : tie.Need-sub-powers-2
 sub-powers-2 c = search needs
@@ -33,8 +33,11 @@ powers-requires-2 : tie.Need-powers-requires-2
 powers-requires-2 c κs = search needs
 
 returns-2 : tie.Need-returns-2
-unfolding Sckb.sckb
-returns-2 c = λ i l. rw (c .powers2 .ensures, ← c .before .before .power-terms .ensures .0)
+unfolding sckbFirst
+returns-2 c =
+    let nm = c .before .before .power-terms .result in
+    let h : min (c .before .before .before .args .count) nm ≡ nm = omega arith in
+    rw (← c .before .before .power-terms .ensures .0, h) (c .powers2 .ensures)
 
 pub sckb-first-spec : {M : Type 1} → statement M
 sckb-first-spec =
