@@ -3,7 +3,7 @@
 use std::hint::black_box;
 use std::time::Instant;
 
-use oracle::answer;
+use oracle::answer::{self, Build};
 use oracle::reading::half_offset_plus_c;
 use oracle::record::{Kind, Record};
 
@@ -12,6 +12,16 @@ type Places = [f64; 200];
 unsafe extern "C" {
     safe fn routines_sdmn(m: u32, n: u32, c: f64, cv: f64, kd: f64, df: &mut Places);
     safe fn routines_sckb(df: &Places, m: u32, n: u32, c: f64, ck: &mut Places);
+    safe fn routines_aswfa(
+        m: u32,
+        n: u32,
+        c: f64,
+        cv: f64,
+        kd: f64,
+        x: f64,
+        value: &mut f64,
+        derivative: &mut f64,
+    );
 }
 
 const ROUNDS: usize = 15;
@@ -70,6 +80,19 @@ fn report(kind: Kind, m: u16, n: u16, c: f64, times: usize) {
         || routines_sckb(black_box(&df), m, n, black_box(c), black_box(&mut ck)),
         || {
             black_box(answer::sckb(black_box(&record), black_box(&df)));
+        },
+    );
+    // The unaltered Rust, whose powers are the library's `powf`.
+    let (x, mut value, mut derivative) = (0.3, 0.0, 0.0);
+    compare(
+        "aswfa at 0.3",
+        times,
+        || {
+            let (value, derivative) = (black_box(&mut value), black_box(&mut derivative));
+            routines_aswfa(m, n, black_box(c), black_box(cv), kd, black_box(x), value, derivative)
+        },
+        || {
+            black_box(answer::aswfa(Build::Unaltered, kind, black_box(&record), black_box(x)));
         },
     );
 }

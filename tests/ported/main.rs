@@ -16,7 +16,7 @@ use std::process::ExitCode;
 
 use generator::Generator;
 use known::Input;
-use oracle::answer;
+use oracle::answer::{self, Build};
 use oracle::reading::coefficient_refusal;
 use oracle::record::{Kind, Record, Request, hex, same};
 use tally::Tally;
@@ -30,6 +30,16 @@ type Places = [f64; 200];
 unsafe extern "C" {
     safe fn routines_sdmn(m: u32, n: u32, c: f64, cv: f64, kd: f64, df: &mut Places);
     safe fn routines_sckb(df: &Places, m: u32, n: u32, c: f64, ck: &mut Places);
+    safe fn routines_aswfa(
+        m: u32,
+        n: u32,
+        c: f64,
+        cv: f64,
+        kd: f64,
+        x: f64,
+        value: &mut f64,
+        derivative: &mut f64,
+    );
     safe fn routines_kmn(df: &Places, m: u32, n: u32, c: f64) -> f64;
     safe fn routines_qstar(
         ck: &Places,
@@ -70,10 +80,15 @@ unsafe extern "C" {
     ) -> u8;
 }
 
+/// Where the unaltered Rust follows the power rule too.
+const UNALTERED_AT: [f64; 4] = [0.0, -0.0, 1.0, -1.0];
+
 /// What every routine is held against, in the order in which the routines need each other.
 struct Tallies {
     sdmn: Tally,
     sckb: Tally,
+    aswfa: Tally,
+    unaltered_aswfa: Tally,
     kmn: Tally,
     qstar: Tally,
     cbk: Tally,
@@ -93,6 +108,8 @@ fn main() -> ExitCode {
     let mut tallies = Tallies {
         sdmn: Tally::new("sdmn"),
         sckb: Tally::new("sckb"),
+        aswfa: Tally::new("aswfa by the power rule"),
+        unaltered_aswfa: Tally::new("aswfa unaltered, at 0 and 1"),
         kmn: Tally::new("kmn"),
         qstar: Tally::new("qstar"),
         cbk: Tally::new("cbk"),
@@ -150,6 +167,13 @@ impl Tallies {
         let mut ck = [0.0; 200];
         routines_sckb(&df, m, n, record.c, &mut ck);
         compare(&mut self.sckb, record, &ck, &answer::sckb(record, &df));
+        for x in [record.x, -record.x] {
+            compare_pair(&mut self.aswfa, Build::PowerRule, kind, record, x);
+        }
+        for x in UNALTERED_AT {
+            compare_pair(&mut self.aswfa, Build::PowerRule, kind, record, x);
+            compare_pair(&mut self.unaltered_aswfa, Build::Unaltered, kind, record, x);
+        }
         if coefficient_refusal(record, Request::Radial).is_none() {
             self.compare_disc(record, &df, &ck);
         }
@@ -196,6 +220,8 @@ impl Tallies {
         let all = [
             &self.sdmn,
             &self.sckb,
+            &self.aswfa,
+            &self.unaltered_aswfa,
             &self.kmn,
             &self.qstar,
             &self.cbk,
@@ -231,4 +257,14 @@ fn coefficients(kind: Kind, record: &Record, values: &mut [f64]) -> u8 {
     };
     // SAFETY: the pointer and the length are those of one slice.
     unsafe { call(m, n, c, cv, values.as_mut_ptr(), values.len()) }
+}
+
+/// The pair at x, which need not be the record's: the routine is defined for every x.
+fn compare_pair(tally: &mut Tally, build: Build, kind: Kind, record: &Record, x: f64) {
+    let (m, n) = (u32::from(record.m), u32::from(record.n));
+    let kd = f64::from(kind.sign());
+    let [mut value, mut derivative] = [0.0; 2];
+    routines_aswfa(m, n, record.c, record.cv, kd, x, &mut value, &mut derivative);
+    let theirs = answer::aswfa(build, kind, record, x);
+    compare(tally, record, &[value, derivative], &theirs);
 }

@@ -1,5 +1,5 @@
 -- The coefficients of the powers of 1 − x² (`sckb`), in the order and with the names of the source. Definitions only.
-use Prim.Native.Nat.{ℕ, zero, suc, _+_, _-_, _*_, _%_}
+use Prim.Native.Nat.{ℕ, zero, suc, _+_, _-_, _*_, _%_, min}
 use mathlib.Core.Bool.{Bool, true, false, cond}
 use mathlib.Core.List.{List}
 use lib.Dec.{eqb, ltb}
@@ -61,3 +61,7 @@ powers df m ip nm count = filled df m ip nm count 0 (neg (halfTo m)) #0 blank
 -- all of them
 unfoldable pub sckb : List Float → ℕ → ℕ → Float → List Float
 sckb df m n c = powers df m ((n - m) % 2) (powerTermsOf (n - m) c) (powerTermsOf (n - m) c)
+
+-- the first `count` of them, or all where there are fewer; the other places stay zero
+unfoldable pub sckbFirst : List Float → ℕ → ℕ → Float → ℕ → List Float
+sckbFirst df m n c count = powers df m ((n - m) % 2) (powerTermsOf (n - m) c) (min count (powerTermsOf (n - m) c))

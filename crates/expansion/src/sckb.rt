@@ -127,3 +127,15 @@ pub fn sckb(df: &[f64; 200], m: u32, n: u32, c: f64) -> Places
     let nm = super::terms::power_terms(n - m, c);
     powers(df, m, (n - m) % 2, nm, nm)
 }
+
+// The first `count` of these coefficients, for a caller that reads no others.
+pub fn sckb_first(df: &[f64; 200], m: u32, n: u32, c: f64, count: u32) -> Places
+    requires { ⌜ Terms.Usable m n c ⌝ }
+    ensures { λ x. ⌜ x ≡ Sckb.sckbFirst (now (df .entry)) m n c count ⌝ }
+{
+    let nm = super::terms::power_terms(n - m, c);
+    if count < nm {
+        return powers(df, m, (n - m) % 2, nm, count);
+    }
+    powers(df, m, (n - m) % 2, nm, nm)
+}

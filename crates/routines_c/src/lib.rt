@@ -5,6 +5,7 @@ ghost use Prim.Native.Nat.{_<_, _≤_};
 ghost use Rattle.expansion.specs.Terms.{Usable};
 ghost use Rattle.expansion.specs.Sdmn as Sdmn;
 ghost use Rattle.expansion.specs.Sckb as Sckb;
+ghost use Rattle.angular.specs.Aswfa as Aswfa;
 ghost use Rattle.joining.specs.Kmn as Kmn;
 ghost use Rattle.joining.specs.Qstar as Qstar;
 ghost use Rattle.joining.specs.Cbk as Cbk;
@@ -66,4 +67,24 @@ pub extern "C" fn routines_cbk(
     ensures { λ _. ⌜ now (bk .exit) ≡ Cbk.cbk (now (ck .entry)) m n c cv qt ⌝ }
 {
     *bk = joining::cbk::cbk(ck, m, n, c, cv, qt);
+}
+
+#[no_mangle]
+pub extern "C" fn routines_aswfa(
+    m: u32,
+    n: u32,
+    c: f64,
+    cv: f64,
+    kd: f64,
+    x: f64,
+    value: &mut f64,
+    derivative: &mut f64,
+)
+    requires { ⌜ Usable m n c ⌝ }
+    ensures { λ _. ⌜ now (value .exit) ≡ Aswfa.aswfa m n c cv kd x .value ⌝ }
+    ensures { λ _. ⌜ now (derivative .exit) ≡ Aswfa.aswfa m n c cv kd x .derivative ⌝ }
+{
+    let p = angular::aswfa::aswfa(m, n, c, cv, kd, x);
+    *value = p.value;
+    *derivative = p.derivative;
 }

@@ -1,0 +1,3 @@
+pub mod Aswfa
+pub mod MirrorLaw
+pub mod Examples
