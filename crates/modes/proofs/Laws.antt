@@ -5,8 +5,8 @@ use native.Mathlib.Numerals.{add-one}
 use mathlib.Core.Path.{_≡_, refl, sym, ap, subst, _∙_}
 use mathlib.Core.Bool.{Bool, true, false, cond, _||_}
 use mathlib.Core.List.{List, [], _∷_, _++_}
-use borrow.Author.Tests.{ltb-false, lt-ltb, le-ltb, le-leb, lt-leb, ne-eqb}
-use lib.Dec.{T, ltb}
+use borrow.Author.Tests.{eqb-true, ltb-false, lt-ltb, le-ltb, le-leb, lt-leb, ne-eqb}
+use lib.Dec.{T, ltb, eqb}
 use lib.IntN.{ℤ, pos, natAbs}
 use lib.Ieee.{Float, nan, inf, fin, lt, eq, ne, div, ofBits}
 use lib.Ieee.Compare.{differs-from-itself}
@@ -23,10 +23,14 @@ use Rattle.expansion.specs.Terms.{Usable, #175}
 use Rattle.expansion.specs.Sdmn.{sdmn}
 use Rattle.segv.specs.Families.{bothFamilies}
 use Rattle.segv.specs.Row.{Slices, slices, writtenRow, RowAnswer, answer, segvRow}
+use Rattle.angular.specs.declared.aswfa.Pair as Angular
+use Rattle.angular.specs.Aswfa.{aswfa}
+use Rattle.modes.specs.declared.answers.Answer.the-variants.{Pair, Refused}
 use Rattle.modes.specs.declared.checking.Mode.{Mode}
 use Rattle.modes.specs.declared.checking.Kind.{Kind}
 use Rattle.modes.specs.Refusals.{outOfRange, noParameter, refusalOf, rowRefusal, modeRefusal, hOf, entriesOf, #291, signOf, notFinite}
 use Rattle.modes.specs.Answers.{single}
+use Rattle.modes.specs.Angular.{outside, angularRefusal, angularPair, angularOf}
 use Rattle.modes.specs.Coefficients.{coefficientsOf}
 use Rattle.modes.specs.Rows.{zeroAt, rowIn, rowOf, tooShort, blankSlices, lessened, dlmfIn, dlmfOf}
 
@@ -64,6 +68,17 @@ unfolding notFinite ne eq div ofBits abs
 infinite-not-finite nan a h e = not-left h
 infinite-not-finite (inf s) a h e = rw e
 infinite-not-finite (fin s m d) a h e = rw e
+
+-- ---- refusal 8
+pub nan-outside : (x : Float) → ne x x ≡ true → true ≡ outside x
+unfolding outside
+nan-outside x h = sym (ap outside (differs-from-itself x (subst T (sym h) tt)))
+
+pub size-outside : (x a : Float) → ne x x ≡ false → a ≡ abs x → lt #1 a ≡ outside x
+unfolding outside ne eq
+size-outside nan a h e = not-left h
+size-outside (inf s) a h e = rw e
+size-outside (fin s m d) a h e = rw e
 
 -- ---- a mode that is not refused
 pub in-range : (x : Mode) → x .m ≤ 199 → x .m ≤ x .n → x .n - x .m ≤ 199 → outOfRange x ≡ false
@@ -229,3 +244,40 @@ copied df out out₀ j p q t d = (
 pub all-copied : (df out out₀ : List Float) (j : ℕ) → j ≡ 200 → length df ≡ 200 → take j out ≡ take j df → drop j out ≡ drop j out₀ → out ≡ df ++ drop 200 out₀
 all-copied df out out₀ j h l t d =
     sym (take-append-drop 200 out) ∙ ap (λ (a : List Float). a ++ drop 200 out) (rw h at t ∙ take-all 200 df (omega arith)) ∙ ap (λ (b : List Float). df ++ b) (rw h at d)
+
+-- ---- angular pairs
+module _ (mode : Mode) (cv x : Float) (k : ℕ) (h : k ≡ modeRefusal mode) where
+  pub angular-early : (k ≡ 0 → ⊥) → k ≡ angularRefusal mode cv x
+  unfolding angularRefusal
+  angular-early n = rw (← h, ne-eqb k 0 n)
+
+  module _ (z : k ≡ 0) where
+    pub angular-value : notFinite cv ≡ true → 7 ≡ angularRefusal mode cv x
+    unfolding angularRefusal
+    angular-value v = rw (← h, z, v)
+
+    pub angular-outside : notFinite cv ≡ false → outside x ≡ true → 8 ≡ angularRefusal mode cv x
+    unfolding angularRefusal
+    angular-outside v o = rw (← h, z, v, o)
+
+    pub angular-none : notFinite cv ≡ false → outside x ≡ false → 0 ≡ angularRefusal mode cv x
+    unfolding angularRefusal
+    angular-none v o = rw (← h, z, v, o)
+
+-- a mode whose angular pair is not refused is usable
+pub angular-usable : (mode : Mode) (cv x : Float) → angularRefusal mode cv x ≡ 0 → modeRefusal mode ≡ 0
+unfolding angularRefusal
+angular-usable mode cv x h = go (modeRefusal mode) (eqb (modeRefusal mode) 0) refl h
+  where
+    go : (k : ℕ) (t : Bool) → eqb k 0 ≡ t → cond t (cond (notFinite cv) 7 (cond (outside x) 8 0)) k ≡ 0 → k ≡ 0
+    go k true e h = eqb-true k 0 e
+    go k false e h = h
+
+module _ (kind : Kind) (mode : Mode) (cv x : Float) (k : ℕ) (h : k ≡ angularRefusal mode cv x) where
+  pub pair-refused : (k ≡ 0 → ⊥) → Refused k ≡ angularOf kind mode cv x
+  unfolding angularOf
+  pair-refused n = rw (← h, ne-eqb k 0 n)
+
+  pub pair-given : (s : Float) (p : Angular.Pair) → k ≡ 0 → s ≡ signOf kind → p ≡ aswfa (mode .m) (mode .n) (mode .c) cv s x → Pair (p .value) (p .derivative) ≡ angularOf kind mode cv x
+  unfolding angularOf angularPair
+  pair-given s p z hs hp = rw (← h, z, hp, hs)

@@ -3,6 +3,7 @@ pub mod Refusals
 pub mod Operations
 pub mod Rows
 pub mod Coefficients
+pub mod Angular
 pub mod Demand3
 pub mod RowLaws
 pub mod Edges

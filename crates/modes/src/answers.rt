@@ -18,3 +18,13 @@ pub(crate) fn slice_answer(number: u8) -> SliceAnswer
     }
     SliceAnswer::Refused(number)
 }
+
+// To a call for one mode.
+pub enum Answer {
+    // A value and its derivative.
+    Pair(f64, f64),
+    // Value and derivative of the first kind, then of the second.
+    Quadruple(f64, f64, f64, f64),
+    // Document 01's number.
+    Refused(u8),
+}

@@ -1,11 +1,14 @@
 // The public library. Nothing here asks anything of its caller: what document 01 does not accept is
 // refused by its number, and a refused call leaves every slice as it was.
+mod angular_pairs;
 mod answers;
 mod checking;
 mod expansions;
 mod operations;
 mod rows;
 
+pub use angular_pairs::angular;
+pub use answers::Answer;
 pub use answers::SliceAnswer;
 pub use checking::Kind;
 pub use checking::Mode;
