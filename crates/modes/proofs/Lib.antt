@@ -3,5 +3,6 @@ pub mod Laws
 pub mod Given
 pub mod Filled
 pub mod Demand3
+pub mod Demand3Angular
 pub mod RowLaws
 pub mod Edges

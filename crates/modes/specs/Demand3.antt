@@ -1,18 +1,21 @@
--- The users' third demand for rows, as statements about the definitions of the public rows. `proofs/Demand3.antt` proves them. The demand's half on angular pairs comes with these.
+-- The users' third demand, sentence by sentence, as statements about the definitions of the public rows and of the public angular pair. `proofs/Demand3.antt` and `proofs/Demand3Angular.antt` prove them.
 use Prim.Native.Nat.{ℕ, _+_, _-_, _/_, _%_, _≤_}
 use mathlib.Core.Path.{_≡_}
-use mathlib.Core.Bool.{false}
+use mathlib.Core.Bool.{true, false, cond}
 use mathlib.Core.List.{List}
-use lib.Ieee.{Float, lt}
+use lib.Dec.{eqb}
+use lib.Ieee.{Float, lt, le, neg}
 use lib.ListN.{getD}
-use Rattle.arith.specs.Double.{_⊖_, _⊗_, at, #1e-10}
+use Rattle.arith.specs.Double.{_⊖_, _⊗_, at, #0, #1, #1e-10}
 use Rattle.segv.specs.declared.bisection.Bracket.{Bracket}
 use Rattle.segv.specs.Row.{Slices}
 use Rattle.segv.specs.Sound.{SoundIn}
+use Rattle.modes.specs.declared.answers.Answer.the-variants.{Pair}
 use Rattle.modes.specs.declared.checking.Kind.{Kind}
 use Rattle.modes.specs.declared.checking.Mode.{Mode}
 use Rattle.modes.specs.Refusals.{signOf, entriesOf}
 use Rattle.modes.specs.Rows.{rowOf, tooShort, dlmfOf}
+use Rattle.modes.specs.Angular.{angularOf}
 
 -- what a row hands out for the mode at offset j: the value, and the lower, the upper and the step number beside it
 abbrev pub handed : Slices → ℕ → Bracket
@@ -38,3 +41,13 @@ Demand3Dlmf =
     → tooShort x l ≡ false
     → (rowOf kind x allowance l .number ≡ 0)
     × ((j : ℕ) → j ≤ x .n - x .m → at (dlmfOf kind x allowance xs .after) j ≡ at (rowOf kind x allowance l .after .values) j ⊖ x .c ⊗ x .c)
+
+-- For every accepted angular call with x above 0 and at most 1, whatever its c and cv, an accepted one alike but for −x gives the same pair bit for bit except one exact change of sign: on the value
+-- if n − m is odd, on the derivative if even, NaN aside. (There is one NaN here, and it is its own negation, so that this is an equation.)
+abbrev pub Demand3Angular : Type 0
+Demand3Angular =
+    (kind : Kind) (mode : Mode) (cv x value derivative : Float)
+    → lt #0 x ≡ true
+    → le x #1 ≡ true
+    → angularOf kind mode cv x ≡ Pair value derivative
+    → angularOf kind mode cv (neg x) ≡ cond (eqb ((mode .n - mode .m) % 2) 1) (Pair (neg value) derivative) (Pair value (neg derivative))
