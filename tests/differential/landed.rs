@@ -8,8 +8,8 @@ pub const PROGRAM: &str = "target/bin/spheroidal";
 pub const CLASSES: [(&str, bool); 9] = [
     ("operation 1, prolate row", true),
     ("operation 2, oblate row", true),
-    ("operation 3, prolate angular", false),
-    ("operation 4, oblate angular", false),
+    ("operation 3, prolate angular", true),
+    ("operation 4, oblate angular", true),
     ("operation 5, oblate radial", false),
     ("operation 6, prolate DLMF row", true),
     ("operation 7, oblate DLMF row", true),

@@ -24,19 +24,16 @@ fn tell(index: u64, operation: u8) {
     io::write_all(STDERR_FILENO, b" is not built yet\n");
 }
 
-// Tells of the records with operations 3 to 5 among those from one byte to another. They have no
-// lines. This goes, with its call, when these operations come.
+// Tells of the records with operation 5 among those from one byte to another. They have no lines.
+// This goes, with its call, when that operation comes.
 fn tell_not_built(input: &[u8], from: usize, to: usize, first: u64)
     requires { ⌜ (from ≤ to) × (to ≤ length (now input)) × (first + length (now input) < 18446744073709551616) ⌝ }
 {
     let mut at = from;
     let mut index = first;
     while 33 <= to - at {
-        let operation = input[at + 2];
-        if operation >= 3 {
-            if operation <= 5 {
-                tell(index, operation);
-            }
+        if input[at + 2] == 5 {
+            tell(index, 5);
         }
         at = at + 33;
         index = index + 1;

@@ -7,14 +7,18 @@ use lib.Ieee.{Float}
 use lib.ListN.{getD, replicate}
 use Rattle.arith.specs.Double.{at, #0}
 use Rattle.records.specs.declared.record.Record.{Record}
-use Rattle.records.specs.Lines.{vLine, dLine, rLine}
+use Rattle.records.specs.Lines.{vLine, dLine, aLine, fLine, rLine}
 use Rattle.segv.specs.Row.{Slices}
+use Rattle.modes.specs.declared.answers.Answer.{Answer}
+use Rattle.modes.specs.declared.answers.Answer.the-variants as Answers
+use Rattle.modes.specs.declared.answers.Answer.the-variants.{Pair, Quadruple}
 use Rattle.modes.specs.declared.checking.Kind.{Kind}
 use Rattle.modes.specs.declared.checking.Mode.{Mode}
 use Rattle.modes.specs.declared.operations.Operation.{Operation}
 use Rattle.modes.specs.declared.operations.Operation.the-variants.{Row, Angular, Radial, DlmfRow, Refused}
 use Rattle.modes.specs.Operations.{operationOf}
 use Rattle.modes.specs.Rows.{rowOf, dlmfOf, blankSlices}
+use Rattle.modes.specs.Angular.{angularOf}
 
 -- the lines of a row's first `count` modes
 unfoldable pub vLines : ℕ → ℕ → Slices → ℕ → List ℕ
@@ -36,13 +40,19 @@ dlmfText index kind x allowance =
     let a = dlmfOf kind x allowance (replicate 200 #0) in
     cond (eqb (a .number) 0) (dLines index (x .m) (a .after) (x .n - x .m + 1)) (rLine index (a .number))
 
+-- the line of what a mode is answered
+unfoldable pub answerText : ℕ → ℕ → ℕ → Answer → List ℕ
+answerText index m n (Pair value derivative) = aLine index m n value derivative
+answerText index m n (Quadruple value1 derivative1 value2 derivative2) = fLine index m n value1 derivative1 value2 derivative2
+answerText index m n (Answers.Refused k) = rLine index k
+
 -- by the operation
 unfoldable pub textOf : Operation → ℕ → Record → List ℕ
 textOf (Row kind) index r = rowText index kind (record { m = r .m; n = r .n; c = r .c }) (r .allowance)
 textOf (DlmfRow kind) index r = dlmfText index kind (record { m = r .m; n = r .n; c = r .c }) (r .allowance)
 textOf (Refused k) index r = rLine index k
+textOf (Angular kind) index r = answerText index (r .m) (r .n) (angularOf kind (record { m = r .m; n = r .n; c = r .c }) (r .cv) (r .x))
 -- not built yet
-textOf (Angular kind) index r = []
 textOf Radial index r = []
 
 -- the lines of the record with this number

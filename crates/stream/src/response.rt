@@ -5,7 +5,8 @@ ghost use lib.ListN.{length, replicate};
 ghost use Rattle.arith.specs.Double.{#0};
 ghost use Rattle.records.specs.Text.{Put};
 ghost use Rattle.segv.specs.Row.{slices};
-ghost use Rattle.stream.specs.Response.{vLines, dLines, rowText, dlmfText, responseTo};
+ghost use Rattle.stream.specs.Response.{vLines, dLines, rowText, dlmfText, answerText, responseTo};
+use modes::Answer;
 use modes::Kind;
 use modes::Mode;
 use modes::Operation;
@@ -152,8 +153,33 @@ fn respond_dlmf_row(
     }
 }
 
+// The line of what a mode is answered.
+fn put_answer(answer: Answer, index: u64, m: u16, n: u16, out: &mut [u8], at: usize) -> usize
+    requires { ⌜ at + 103 ≤ length (now out) ⌝ }
+    ensures { λ r. ⌜ Put (now (out .entry)) (now (out .exit)) at r (answerText index m n answer) ⌝ }
+    ensures { λ r. ⌜ r ≤ at + 103 ⌝ }
+{
+    match answer {
+        Answer::Pair(value, derivative) => {
+            records::a_line(out, at, index, m, n, value, derivative)
+        }
+        Answer::Quadruple(value1, derivative1, value2, derivative2) => records::f_line(
+            out,
+            at,
+            index,
+            m,
+            n,
+            value1,
+            derivative1,
+            value2,
+            derivative2,
+        ),
+        Answer::Refused(refusal) => records::r_line(out, at, index, refusal),
+    }
+}
+
 // Puts the lines of a record at a place of the buffer, and answers the place after them. Nothing is
-// put for operations 3 to 5, which are not built yet.
+// put for operation 5, which is not built yet.
 pub(crate) fn respond(request: Record, index: u64, out: &mut [u8], at: usize) -> usize
     requires { ⌜ at + 17200 ≤ length (now out) ⌝ }
     ensures { λ r. ⌜ Put (now (out .entry)) (now (out .exit)) at r (responseTo index request) ⌝ }
@@ -169,7 +195,10 @@ pub(crate) fn respond(request: Record, index: u64, out: &mut [u8], at: usize) ->
         Operation::Row(kind) => respond_row(kind, mode, request.allowance, index, out, at),
         Operation::DlmfRow(kind) => respond_dlmf_row(kind, mode, request.allowance, index, out, at),
         Operation::Refused(refusal) => records::r_line(out, at, index, refusal),
-        Operation::Angular(_) => at,
+        Operation::Angular(kind) => {
+            let answer = modes::angular(kind, mode, request.cv, request.x);
+            put_answer(answer, index, request.m, request.n, out, at)
+        }
         Operation::Radial => at,
     }
 }

@@ -16,11 +16,11 @@ loop-holds c = search needs
 sub-loop : tie.Need-sub-loop Inv-loop μ-loop
 sub-loop c = search needs
 
-add-operation : tie.Need-add-operation Inv-loop μ-loop
-add-operation c = search needs
+add-if1 : tie.Need-add-if1 Inv-loop μ-loop
+add-if1 c = search needs
 
-shared-slice-read-operation : tie.Need-shared-slice-read-operation Inv-loop μ-loop
-shared-slice-read-operation c = search needs
+shared-slice-read-if1 : tie.Need-shared-slice-read-if1 Inv-loop μ-loop
+shared-slice-read-if1 c = search needs
 
 tell-requires : tie.Need-tell-requires Inv-loop μ-loop
 tell-requires c κs = search needs
@@ -48,8 +48,8 @@ tell-not-built-spec =
     μ-loop
     loop-holds
     sub-loop
-    add-operation
-    shared-slice-read-operation
+    add-if1
+    shared-slice-read-if1
     tell-requires
     add-at
     add-index
