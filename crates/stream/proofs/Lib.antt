@@ -4,3 +4,4 @@ pub mod Nexts
 pub mod Reached
 pub mod StreamLaws
 pub mod Readings
+pub mod Ignored

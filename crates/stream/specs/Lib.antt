@@ -1,4 +1,5 @@
 pub mod Response
+pub mod Ignored
 pub mod Stream
 pub mod StreamLaws
 pub mod Readings
