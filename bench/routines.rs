@@ -22,6 +22,25 @@ unsafe extern "C" {
         value: &mut f64,
         derivative: &mut f64,
     );
+    safe fn routines_kmn(df: &Places, m: u32, n: u32, c: f64) -> f64;
+    safe fn routines_qstar(
+        ck: &Places,
+        m: u32,
+        n: u32,
+        c: f64,
+        ck1: f64,
+        qs: &mut f64,
+        qt: &mut f64,
+    );
+    safe fn routines_cbk(
+        ck: &Places,
+        m: u32,
+        n: u32,
+        c: f64,
+        cv: f64,
+        qt: f64,
+        bk: &mut Places,
+    );
 }
 
 const ROUNDS: usize = 15;
@@ -49,9 +68,10 @@ fn compare(name: &str, times: usize, mut ours: impl FnMut(), mut theirs: impl Fn
     );
 }
 
-fn report(kind: Kind, m: u16, n: u16, c: f64, times: usize) {
+/// A record with the characteristic value of its own mode.
+fn record_of(kind: Kind, m: u16, n: u16, c: f64) -> Record {
     let cv = *answer::segv(kind, m, n, c).last().expect("a row has a value");
-    let record = Record {
+    Record {
         operation: 3,
         m,
         n,
@@ -59,7 +79,12 @@ fn report(kind: Kind, m: u16, n: u16, c: f64, times: usize) {
         c,
         cv,
         x: 0.0,
-    };
+    }
+}
+
+fn report(kind: Kind, m: u16, n: u16, c: f64, times: usize) {
+    let record = record_of(kind, m, n, c);
+    let cv = record.cv;
     let nm = 25 + half_offset_plus_c(m, n, c) as u32;
     let kd = f64::from(kind.sign());
     let (m, n) = (u32::from(m), u32::from(n));
@@ -97,10 +122,60 @@ fn report(kind: Kind, m: u16, n: u16, c: f64, times: usize) {
     );
 }
 
+/// The routines of the disc. The Rust's `kmn` computes more than the disc needs.
+fn report_disc(m: u16, n: u16, c: f64, times: usize) {
+    let record = record_of(Kind::Oblate, m, n, c);
+    let nm = 25 + half_offset_plus_c(m, n, c) as u32;
+    let df = answer::sdmn(Kind::Oblate, &record);
+    let ck = answer::sckb(&record, &df);
+    let ck1 = answer::kmn(&record, &df);
+    let [mut qs, mut qt] = answer::qstar(&record, ck1, &ck);
+    let mut bk = [0.0; 200];
+    let (m, n) = (u32::from(m), u32::from(n));
+    println!("Oblate m {m} n {n} c {c}, N {nm}");
+    compare(
+        "kmn",
+        times,
+        || {
+            black_box(routines_kmn(black_box(&df), m, n, black_box(c)));
+        },
+        || {
+            black_box(answer::kmn(black_box(&record), black_box(&df)));
+        },
+    );
+    compare(
+        "qstar",
+        times,
+        || {
+            let (qs, qt) = (black_box(&mut qs), black_box(&mut qt));
+            routines_qstar(black_box(&ck), m, n, black_box(c), ck1, qs, qt)
+        },
+        || {
+            black_box(answer::qstar(black_box(&record), ck1, black_box(&ck)));
+        },
+    );
+    compare(
+        "cbk",
+        times,
+        || {
+            let bk = black_box(&mut bk);
+            routines_cbk(black_box(&ck), m, n, black_box(c), record.cv, qt, bk)
+        },
+        || {
+            black_box(answer::cbk(black_box(&record), qt, black_box(&ck)));
+        },
+    );
+}
+
 fn main() {
     report(Kind::Prolate, 0, 0, 1.0, 20_000);
     report(Kind::Oblate, 2, 9, 5.0, 20_000);
     report(Kind::Oblate, 40, 80, 50.0, 1_000);
     report(Kind::Prolate, 0, 199, 75.0, 1_000);
     report(Kind::Oblate, 150, 349, 75.0, 500);
+    report_disc(0, 0, 1.0, 20_000);
+    report_disc(2, 9, 5.0, 5_000);
+    report_disc(30, 60, 40.0, 200);
+    report_disc(100, 150, 50.0, 50);
+    report_disc(0, 199, 75.0, 20);
 }
