@@ -15,8 +15,8 @@ use Rattle.expansion.specs.Sdmn.{sdmn}
 use Rattle.expansion.specs.Sckb.{regulator, terms, sumOf, factorial, filled, powers, sckb}
 use Rattle.angular.specs.Aswfa.{nm2Of, a0Of, converged, summed, su1Of, su2Of, derivativeAtOne, derivativeInside, beforeSigns, signAt, aswfa}
 
--- everything that computing an example unfolds
-unfoldable computed : Bool
+-- everything that computing an example unfolds; tables of the crates above use it too
+unfoldable pub computed : Bool
 unfolding aswfa signAt beforeSigns derivativeInside derivativeAtOne su1Of su2Of summed converged a0Of nm2Of sckb powers filled factorial sumOf terms regulator sdmn Sums.converged Sums.blank rising risingBy termsOf clamped power sqrt abs add sub mul div neg lt le eq ofInt ofBits toBits toSigned
 computed = true
 

@@ -4,15 +4,17 @@ use mathlib.Core.Bool.{true, false}
 use mathlib.Core.List.{List, [], _∷_, _++_, map}
 use Prim.Native.Nat.{ℕ}
 use Prim.Native.String.{String}
-use lib.Ieee.{add, sub, mul, div, ofInt, ofBits, toBits, lt, eq}
+use lib.Ieee.{ofBits}
 use lib.ListN.{replicate}
 use Rattle.records.specs.Record.{numberAt, nextAt}
 use Rattle.records.specs.Text.{ascii, digit, decimalIn, hexadecimal}
 use Rattle.segv.specs.Row.{written, writtenRow, segvRow}
 use Rattle.modes.specs.Operations.{operationOf}
-use Rattle.modes.specs.Refusals.{hOf, outOfRange, noParameter, refusalOf}
+use Rattle.angular.specs.Examples.{computed}
+use Rattle.modes.specs.Refusals.{signOf, hOf, outOfRange, noParameter, refusalOf, notFinite}
 use Rattle.modes.specs.Rows.{tooShort, zeroAt, rowIn, rowOf, blankSlices, lessened, dlmfIn, dlmfOf}
-use Rattle.stream.specs.Response.{vLines, dLines, rowText, dlmfText, textOf, responseTo}
+use Rattle.modes.specs.Angular.{outside, angularRefusal, angularPair, angularOf}
+use Rattle.stream.specs.Response.{vLines, dLines, rowText, dlmfText, answerText, textOf, responseTo}
 use Rattle.stream.specs.Stream.{linesIn, linesOf, Answered, answeredIn, answered}
 
 -- a record with this operation, n 2, and all else zero
@@ -23,8 +25,8 @@ asks operation = 0x53 ∷ 0x57 ∷ operation ∷ 0 ∷ 0 ∷ 2 ∷ replicate 27 
 abbrev pub streams : List (List ℕ × String)
 streams =
     ([], "") ∷
-    -- the first record of document 01's example
-    (asks 1, "V 0 0 0 0000000000000000 0000000000000000 0000000000000000\nV 0 1 0 4000000000000000 4000000000000000 4000000000000000\nV 0 2 0 4018000000000000 4018000000000000 4018000000000000\n") ∷
+    -- document 01's example
+    (asks 1 ++ 0x53 ∷ 0x57 ∷ 3 ∷ replicate 30 0, "V 0 0 0 0000000000000000 0000000000000000 0000000000000000\nV 0 1 0 4000000000000000 4000000000000000 4000000000000000\nV 0 2 0 4018000000000000 4018000000000000 4018000000000000\nA 1 0 0 3ff0000000000000 0000000000000000\n") ∷
     -- no such operation: the stream goes on
     (asks 0 ++ asks 8 ++ asks 255 ++ asks 7, "R 0 3\nR 1 3\nR 2 3\nD 3 0 0000000000000000\nD 3 1 4000000000000000\nD 3 2 4018000000000000\n") ∷
     -- it ends inside a record, whatever the mark
@@ -38,7 +40,7 @@ streams =
     []
 
 pub streams-right : map (λ (row : List ℕ × String). linesOf (row .0)) streams ≡ map (λ (row : List ℕ × String). ascii (row .1)) streams
-unfolding linesIn responseTo textOf rowText dlmfText vLines dLines nextAt numberAt decimalIn hexadecimal digit operationOf dlmfOf dlmfIn lessened rowOf rowIn tooShort refusalOf outOfRange noParameter hOf zeroAt blankSlices written writtenRow segvRow add sub mul div ofInt ofBits toBits lt eq
+unfolding computed linesIn responseTo textOf rowText dlmfText answerText vLines dLines nextAt numberAt decimalIn hexadecimal digit operationOf dlmfOf dlmfIn lessened rowOf rowIn tooShort refusalOf outOfRange noParameter notFinite hOf signOf zeroAt blankSlices written writtenRow segvRow outside angularRefusal angularPair angularOf
 streams-right = refl
 
 -- a stream, the room in the buffer, and what a call from byte 0 on answers, the first record being number 5
