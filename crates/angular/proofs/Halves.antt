@@ -1,129 +1,24 @@
--- The sums run to a term below the 106th. Their limit is the whole part of w + c, with w the whole part of (n − m)/2; document 01's H = (n − m)/2 + c is below 175.
--- Since w is at most (n − m)/2 and rounding keeps the order, w + c rounds to no more than H. Assumes nothing.
-use Prim.Native.Nat.{ℕ, _+_, _-_, _*_, _/_, _^_, _<_, _≤_}
-use mathlib.Core.Path.{_≡_, refl, sym, ap, subst, _∙_}
-use mathlib.Core.Bool.{Bool, true, false, _&&_, _||_}
+-- The sums run to a term below the 106th: their limit is the whole part of w + c, with w the whole part of (n − m)/2, and w + c is below 175. Assumes nothing.
+use Prim.Native.Nat.{ℕ, _+_, _-_, _/_, _<_}
+use mathlib.Core.Path.{_≡_, refl, sym, ap, _∙_}
+use mathlib.Core.Bool.{true, false}
 use native.Mathlib.Omega.{arith}
-use native.Mathlib.Nat.{le-of-eq, lt-of-le-of-lt, lt-of-lt-of-le, zero-mul, mul-comm, mul-assoc, mul-left-comm, mul-right-comm, add-mul, add-zero, sub-zero, mul-pos, mul-le-mul-right, mul-lt-mul-of-pos-right, lt-of-mul-lt-mul-right}
-use borrow.Author.Tests.{ltb-true, ltb-false, lt-ltb, le-ltb}
-use lib.Dec.{T, ltb, eqb, ltb→lt, eqb→eq}
-use lib.Pow.{shl-lt, pow-mono}
 use lib.IntN.{ℤ, pos, natAbs}
-use lib.Ieee.{Float, nan, inf, fin, binary64, up, down, round, sum, add, div, lt, le, eq, ofInt, ofBits}
-use lib.Ieee.Back.{round-whole}
-use lib.Ieee.Exact.{HasValue, round-exact}
-use lib.Ieee.Fits.{down-pos}
-use lib.Ieee.Order.{round-mono, transfer}
-use lib.Ieee.Scale.{round-same}
+use lib.Ieee.{Float, lt, ofBits}
 use mir.Syntax.{w32}
 use mir.Val.{toZ, ofZ}
-use Rattle.arith.specs.Double.{_⊕_, _⊘_, dbl, #0, #2}
+use Rattle.arith.specs.Double.{_⊕_, dbl, #0}
 use Rattle.arith.specs.Truncation.{truncate}
-use Rattle.arith.proofs.Flags.{not-taken, not-left}
-use Rattle.arith.proofs.Unsigned.{Unsigned, dbl-unsigned, sum-unsigned}
+use Rattle.arith.proofs.Unsigned.{dbl-unsigned}
 use Rattle.arith.proofs.Laws.{truncate-sum-below, reads-back}
 use Rattle.expansion.specs.Terms.{halfSum, #175}
+use Rattle.expansion.proofs.Halves.{half-below}
 use Rattle.angular.specs.Aswfa.{nm2Of}
-
--- ---- a sum of two doubles that are not below zero is one rounded fraction, -0 included
-sum-is : (m : ℕ) (e : ℤ) (s : Bool) (n : ℕ) (d : ℤ) → lt (fin s n d) #0 ≡ false → fin false m e ⊕ fin s n d ≡ round binary64 false (m * up e * down d + n * up d * down e) (down e * down d)
-unfolding add sum lt ofBits
-sum-is m e false n d h = refl
-sum-is m e true n d h = rw (none, le-ltb (m * up e * down d) 0 (omega arith), sub-zero (m * up e * down d), add-zero (m * up e * down d))
-  where
-    zero-left : (x z : ℕ) → x * 1 + z ≤ 0 → x ≡ 0
-    zero-left x z h = omega arith
-
-    none : n * up d * down e ≡ 0
-    none = ap (λ (x : ℕ). x * down e) (zero-left (n * up d) (0 * 1 * down d) (ltb-false 0 (n * up d * 1 + 0 * 1 * down d) h)) ∙ zero-mul (down e)
-
--- a / p + n / d and b / q + n / d, in the order of a / p and b / q
-cross : (a p b q n d : ℕ) → a * q ≤ b * p → (a * d + n * p) * (q * d) ≤ (b * d + n * q) * (p * d)
-cross a p b q n d h =
-    let l : (a * d + n * p) * (q * d) ≡ a * q * (d * d) + n * (p * q * d) = simp (add-mul, mul-assoc, mul-comm, mul-left-comm) refl in
-    let r : (b * d + n * q) * (p * d) ≡ b * p * (d * d) + n * (p * q * d) = simp (add-mul, mul-assoc, mul-comm, mul-left-comm) refl in
-    rw (l, r) (more (a * q * (d * d)) (b * p * (d * d)) (n * (p * q * d)) (mul-le-mul-right (d * d) h))
-  where
-    more : (x y z : ℕ) → x ≤ y → x + z ≤ y + z
-    more x y z h = omega arith
-
--- ---- what is at most a number below 175 is below 175
-at-most : (a b : ℕ) (t : Bool) → T (ltb a b || (eqb a b && t)) → a ≤ b
-at-most a b t = go (ltb a b) (eqb a b) (ltb→lt a b) (eqb→eq a b)
-  where
-    go : (x y : Bool) → (T x → a < b) → (T y → a ≡ b) → T (x || (y && t)) → a ≤ b
-    go true y f g h = let l = f tt in omega arith
-    go false true f g h = le-of-eq (g tt)
-    go false false f g h = absurd h
-
-below-then : (a p b q n d : ℕ) → 0 < p → 0 < q → a * q ≤ b * p → b * d < n * q → a * d < n * p
-below-then a p b q n d P Q h k =
-    lt-of-mul-lt-mul-right q
-    (lt-of-le-of-lt (le-of-eq (mul-right-comm a d q))
-    (lt-of-le-of-lt (mul-le-mul-right d h)
-    (lt-of-le-of-lt (le-of-eq (mul-right-comm b p d))
-    (lt-of-lt-of-le (mul-lt-mul-of-pos-right k P) (le-of-eq (mul-right-comm n q p))))))
-
-still-below : (x y : Float) → Unsigned x → Unsigned y → T (le x y) → lt y #175 ≡ true → lt x #175 ≡ true
-unfolding le lt eq ofBits
-still-below nan y u v h k = absurd h
-still-below (inf true) y u v h k = not-left u
-still-below (inf false) nan u v h k = absurd h
-still-below (inf false) (inf true) u v h k = not-left v
-still-below (inf false) (inf false) u v h k = not-taken k
-still-below (inf false) (fin t n d) u v h k = absurd h
-still-below (fin true m e) y u v h k = not-left u
-still-below (fin false m e) nan u v h k = absurd h
-still-below (fin false m e) (inf true) u v h k = not-left v
-still-below (fin false m e) (inf false) u v h k = not-taken k
-still-below (fin false m e) (fin true n d) u v h k = not-left v
-still-below (fin false m e) (fin false n d) u v h k =
-    lt-ltb (m * up e * 1) (175 * down e)
-    (below-then (m * up e) (down e) (n * up d) (down d) 175 1 (down-pos e) (down-pos d) (at-most (m * up e * down d) (n * up d * down e) true h) (ltb-true (n * up d * 1) (175 * down d) k))
-
--- ---- x at most y: x + c is below 175 where y + c is
-smaller-sum : (x y c : Float) (a b : ℕ) → HasValue x false a 1 → HasValue y false b 2 → a * 2 ≤ b → lt c #0 ≡ false → lt (y ⊕ c) #175 ≡ true → lt (x ⊕ c) #175 ≡ true
-unfolding add lt ofBits
-smaller-sum nan y c a b p q h z k = absurd p
-smaller-sum (inf s) y c a b p q h z k = absurd p
-smaller-sum (fin true m e) y c a b p q h z k = not-left (p .0)
-smaller-sum (fin false m e) nan c a b p q h z k = absurd q
-smaller-sum (fin false m e) (inf t) c a b p q h z k = absurd q
-smaller-sum (fin false m e) (fin true n d) c a b p q h z k = not-left (q .0)
-smaller-sum (fin false m e) (fin false n d) nan a b p q h z k = not-taken k
-smaller-sum (fin false m e) (fin false n d) (inf true) a b p q h z k = not-left z
-smaller-sum (fin false m e) (fin false n d) (inf false) a b p q h z k = not-taken k
-smaller-sum (fin false m e) (fin false n d) (fin s i g) a b p q h z k =
-    still-below (fin false m e ⊕ fin s i g) (fin false n d ⊕ fin s i g) (sum-unsigned (fin false m e) (fin s i g) refl z) (sum-unsigned (fin false n d) (fin s i g) refl z)
-    (rw (sum-is m e s i g z, sum-is n d s i g z)
-    (round-mono binary64 _ (down e * down g) _ (down d * down g) (mul-pos (down-pos e) (down-pos g)) (mul-pos (down-pos d) (down-pos g))
-    (cross (m * up e) (down e) (n * up d) (down d) (i * up g) (down g) (transfer (m * up e) (n * up d) (down e) (down d) a b 1 2 (omega arith) (omega arith) (p .1) (q .1) (omega arith)))))
-    k
-
--- ---- half of a whole number is exact
-half-value : (n : ℕ) → n < 2 ^ 53 → HasValue (dbl n ⊘ #2) false n 2
-unfolding ofInt div ofBits
-half-value n h = go (round binary64 false n 1) (round-whole binary64 false n (omega arith))
-  where
-    exact : HasValue (round binary64 false n 2) false n 2
-    exact = round-exact binary64 false n 2 n 1073 (omega arith) h (lt-of-lt-of-le (shl-lt 53 1073 h) (pow-mono {i = 1126} {j = 2098} (omega arith))) (sym (mul-assoc n (2 ^ 1073) 2))
-
-    double : (u d : ℕ) → u * 1 ≡ n * d → u * 1 * 2 ≡ n * (2 * d)
-    double u d e = ap (λ (z : ℕ). z * 2) e ∙ mul-assoc n d 2 ∙ ap (λ (z : ℕ). n * z) (mul-comm d 2)
-
-    go : (x : Float) → HasValue x false n 1 → HasValue (x ⊘ #2) false n 2
-    go nan p = absurd p
-    go (inf s) p = absurd p
-    go (fin true m e) p = not-left (p .0)
-    go (fin false m e) p =
-        subst (λ (x : Float). HasValue x false n 2) (sym (round-same binary64 false (m * up e * 1) (2 * down e) n 2 (mul-pos (omega arith) (down-pos e)) (omega arith) (double (m * up e) (down e) (p .1)))) exact
 
 -- ---- the whole part of w + c, and as the machine reads it back
 pub limit-whole : (offset : ℕ) (c : Float) (z : ℤ) → offset < 200 → lt c #0 ≡ false → lt (halfSum offset c) #175 ≡ true → z ≡ truncate (dbl (offset / 2) ⊕ c)
     → (t : ℕ) × (toZ w32 (ofZ w32 z) ≡ pos t) × (t < 175) × ((40 + t) / 2 - 2 ≡ nm2Of offset c)
-unfolding nm2Of ofBits ofInt
+unfolding nm2Of ofBits
 limit-whole offset c z o p q e =
-    let w = offset / 2 in
-    let below = smaller-sum (dbl w) (dbl offset ⊘ #2) c w offset (round-whole binary64 false w (omega arith)) (half-value offset (omega arith)) (omega arith) p q in
-    let k = truncate-sum-below (dbl w) c #175 175 (dbl-unsigned w) (refl, refl) (omega arith) (omega arith) p below in
+    let k = truncate-sum-below (dbl (offset / 2)) c #175 175 (dbl-unsigned (offset / 2)) (refl, refl) (omega arith) (omega arith) p (half-below offset c o p q) in
     (k .0, reads-back z (k .0) (e ∙ k .1) (omega (arith, k .2)), k .2, ap (λ (z : ℤ). (40 + natAbs z) / 2 - 2) (sym (k .1)))

@@ -2,3 +2,4 @@
 pub mod Laws
 pub mod First
 pub mod Lengths
+pub mod Halves

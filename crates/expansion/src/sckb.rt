@@ -86,7 +86,7 @@ fn next_factorial(reg: f64, n: u32, r1: f64) -> f64
 }
 
 // 1e-200 where large orders would overflow, and else 1.
-fn regulator(m: u32, nm: u32) -> f64
+pub fn regulator(m: u32, nm: u32) -> f64
     requires { ⌜ m + nm < 4096 ⌝ }
     ensures { λ x. ⌜ x ≡ Sckb.regulator m nm ⌝ }
 {

@@ -1,0 +1,53 @@
+-- How the definitions of `rmn1` and `rmn2so` unfold, in the form in which the proofs of the code meet them. Assumes nothing.
+use Prim.Native.Nat.{ℕ, suc, _+_, _-_, _/_, _<_}
+use mathlib.Core.Path.{_≡_, refl, sym, ap, _∙_}
+use mathlib.Core.Bool.{true, false}
+use mathlib.Core.List.{List}
+use native.Mathlib.Omega.{arith}
+use lib.IntN.{ℤ, pos, natAbs}
+use lib.Ieee.{Float, lt, ofBits}
+use mir.Syntax.{w32}
+use mir.Val.{toZ, ofZ}
+use Rattle.arith.specs.Double.{_⊕_, _⊗_, dbl, at, #0}
+use Rattle.arith.specs.Truncation.{truncate}
+use Rattle.arith.proofs.Unsigned.{dbl-unsigned}
+use Rattle.arith.proofs.Laws.{truncate-sum-below, reads-back}
+use Rattle.expansion.specs.Terms.{halfSum, #175}
+use Rattle.expansion.proofs.Halves.{half-below, whole-and-part}
+use Rattle.joining.specs.Sums.{settled, nextFactor}
+use Rattle.disc.specs.Limits.{firstTerms, secondTerms}
+use Rattle.disc.specs.Rmn1.{stops, sucOn, powersOn}
+
+-- ---- how far the sums run: the whole parts, and as the machine reads them back
+module _ (offset : ℕ) (c : Float) (z : ℤ) (o : offset < 200) (p : lt c #0 ≡ false) (q : lt (halfSum offset c) #175 ≡ true) where
+  pub first-whole : z ≡ truncate c → (t : ℕ) × (toZ w32 (ofZ w32 z) ≡ pos t) × (offset / 2 + t < 175) × (25 + offset / 2 + t ≡ firstTerms offset c)
+  unfolding firstTerms
+  first-whole e =
+      let k = whole-and-part offset c o p q in
+      (k .0, reads-back z (k .0) (e ∙ k .1) (omega (arith, k .2)), k .2, ap (λ (z : ℤ). 25 + offset / 2 + natAbs z) (sym (k .1)))
+
+  pub second-whole : z ≡ truncate (dbl (offset / 2) ⊕ c) → (t : ℕ) × (toZ w32 (ofZ w32 z) ≡ pos t) × (t < 175) × (25 + t ≡ secondTerms offset c)
+  unfolding secondTerms ofBits
+  second-whole e =
+      let k = truncate-sum-below (dbl (offset / 2)) c #175 175 (dbl-unsigned (offset / 2)) (refl, refl) (omega arith) (omega arith) p (half-below offset c o p q) in
+      (k .0, reads-back z (k .0) (e ∙ k .1) (omega (arith, k .2)), k .2, ap (λ (z : ℤ). 25 + natAbs z) (sym (k .1)))
+
+-- ---- a term of the sum over the expansion coefficients
+module _ (df : List Float) (m ip nm1 left k : ℕ) (r r' sum sw : Float) (hr : r' ≡ nextFactor m ip k r) where
+  pub suc-stop : stops nm1 k (sum ⊕ r' ⊗ at df (k - 1)) sw ≡ true → sum ⊕ r' ⊗ at df (k - 1) ≡ sucOn df m ip nm1 (suc left) k r sum sw
+  unfolding sucOn
+  suc-stop h = rw hr (sym (rw (rw hr at h, sucOn)))
+
+  pub suc-on : stops nm1 k (sum ⊕ r' ⊗ at df (k - 1)) sw ≡ false → sucOn df m ip nm1 left (suc k) r' (sum ⊕ r' ⊗ at df (k - 1)) (sum ⊕ r' ⊗ at df (k - 1)) ≡ sucOn df m ip nm1 (suc left) k r sum sw
+  unfolding sucOn
+  suc-on h = rw hr (sym (rw (rw hr at h, sucOn)))
+
+-- ---- a term of the sum of the power coefficients
+module _ (ck : List Float) (left j : ℕ) (sum sw : Float) where
+  pub powers-stop : settled (sum ⊕ at ck j) sw ≡ true → sum ⊕ at ck j ≡ powersOn ck (suc left) j sum sw
+  unfolding powersOn
+  powers-stop h = sym (rw (h, powersOn))
+
+  pub powers-on : settled (sum ⊕ at ck j) sw ≡ false → powersOn ck left (suc j) (sum ⊕ at ck j) (sum ⊕ at ck j) ≡ powersOn ck (suc left) j sum sw
+  unfolding powersOn
+  powers-on h = sym (rw (h, powersOn))

@@ -1,0 +1,4 @@
+pub mod Limits
+pub mod Rmn1
+pub mod Rmn2so
+pub mod Rswfo
