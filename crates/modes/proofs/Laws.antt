@@ -3,7 +3,7 @@ use Prim.Native.Nat.{ℕ, suc, _+_, _-_, _≤_, _<_}
 use native.Mathlib.Omega.{arith}
 use native.Mathlib.Numerals.{add-one}
 use mathlib.Core.Path.{_≡_, refl, sym, ap, subst, _∙_}
-use mathlib.Core.Bool.{Bool, true, false, cond, _||_}
+use mathlib.Core.Bool.{Bool, true, false, cond, not, _||_}
 use mathlib.Core.List.{List, [], _∷_, _++_}
 use borrow.Author.Tests.{eqb-true, ltb-false, lt-ltb, le-ltb, le-leb, lt-leb, ne-eqb}
 use lib.Dec.{T, ltb, eqb}
@@ -23,13 +23,16 @@ use Rattle.expansion.specs.Terms.{Usable, #175}
 use Rattle.expansion.specs.Sdmn.{sdmn}
 use Rattle.segv.specs.Families.{bothFamilies}
 use Rattle.segv.specs.Row.{Slices, slices, writtenRow, RowAnswer, answer, segvRow}
+use Rattle.disc.specs.declared.rswfo.Radial as Disc
+use Rattle.disc.specs.Rswfo.{rswfo}
 use Rattle.angular.specs.declared.aswfa.Pair as Angular
 use Rattle.angular.specs.Aswfa.{aswfa}
-use Rattle.modes.specs.declared.answers.Answer.the-variants.{Pair, Refused}
+use Rattle.modes.specs.declared.answers.Answer.the-variants.{Pair, Quadruple, Refused}
 use Rattle.modes.specs.declared.checking.Mode.{Mode}
 use Rattle.modes.specs.declared.checking.Kind.{Kind}
-use Rattle.modes.specs.Refusals.{outOfRange, noParameter, refusalOf, rowRefusal, modeRefusal, hOf, entriesOf, #291, signOf, notFinite}
+use Rattle.modes.specs.Refusals.{outOfRange, noParameter, refusalOf, rowRefusal, modeRefusal, hOf, entriesOf, #291, signOf, tooManyTerms, notFinite}
 use Rattle.modes.specs.Answers.{single}
+use Rattle.modes.specs.Radial.{radialRefusal, radialKinds, radialOf}
 use Rattle.modes.specs.Angular.{outside, angularRefusal, angularPair, angularOf}
 use Rattle.modes.specs.Coefficients.{coefficientsOf}
 use Rattle.modes.specs.Rows.{zeroAt, rowIn, rowOf, tooShort, blankSlices, lessened, dlmfIn, dlmfOf}
@@ -281,3 +284,45 @@ module _ (kind : Kind) (mode : Mode) (cv x : Float) (k : ℕ) (h : k ≡ angular
   pub pair-given : (s : Float) (p : Angular.Pair) → k ≡ 0 → s ≡ signOf kind → p ≡ aswfa (mode .m) (mode .n) (mode .c) cv s x → Pair (p .value) (p .derivative) ≡ angularOf kind mode cv x
   unfolding angularOf angularPair
   pair-given s p z hs hp = rw (← h, z, hp, hs)
+
+-- ---- radial functions
+module _ (mode : Mode) (cv x : Float) (k : ℕ) (h : k ≡ modeRefusal mode) where
+  pub radial-early : (k ≡ 0 → ⊥) → k ≡ radialRefusal mode cv x
+  unfolding radialRefusal
+  radial-early n = rw (← h, ne-eqb k 0 n)
+
+  module _ (z : k ≡ 0) where
+    pub radial-terms : tooManyTerms mode ≡ true → 6 ≡ radialRefusal mode cv x
+    unfolding radialRefusal
+    radial-terms t = rw (← h, z, t)
+
+    module _ (t : tooManyTerms mode ≡ false) where
+      pub radial-value : notFinite cv ≡ true → 7 ≡ radialRefusal mode cv x
+      unfolding radialRefusal
+      radial-value v = rw (← h, z, t, v)
+
+      pub radial-none : notFinite cv ≡ false → eq x #0 ≡ true → 0 ≡ radialRefusal mode cv x
+      unfolding radialRefusal
+      radial-none v o = rw (← h, z, t, v, o)
+
+      pub radial-outside : notFinite cv ≡ false → eq x #0 ≡ false → 8 ≡ radialRefusal mode cv x
+      unfolding radialRefusal
+      radial-outside v o = rw (← h, z, t, v, o)
+
+pub radial-usable : (mode : Mode) (cv x : Float) → radialRefusal mode cv x ≡ 0 → modeRefusal mode ≡ 0
+unfolding radialRefusal
+radial-usable mode cv x h = go (modeRefusal mode) (eqb (modeRefusal mode) 0) refl h
+  where
+    go : (k : ℕ) (t : Bool) → eqb k 0 ≡ t → cond t (cond (tooManyTerms mode) 6 (cond (notFinite cv) 7 (cond (not (eq x #0)) 8 0))) k ≡ 0 → k ≡ 0
+    go k true e h = eqb-true k 0 e
+    go k false e h = h
+
+module _ (mode : Mode) (cv x : Float) (k : ℕ) (h : k ≡ radialRefusal mode cv x) where
+  pub kinds-refused : (k ≡ 0 → ⊥) → Refused k ≡ radialOf mode cv x
+  unfolding radialOf
+  kinds-refused n = rw (← h, ne-eqb k 0 n)
+
+  pub kinds-given : (r : Disc.Radial) → k ≡ 0 → r ≡ rswfo (mode .m) (mode .n) (mode .c) cv
+      → Quadruple (r .first .value) (r .first .derivative) (r .second .value) (r .second .derivative) ≡ radialOf mode cv x
+  unfolding radialOf radialKinds
+  kinds-given r z e = rw (← h, z, e)

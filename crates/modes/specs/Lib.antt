@@ -4,6 +4,7 @@ pub mod Operations
 pub mod Rows
 pub mod Coefficients
 pub mod Angular
+pub mod Radial
 pub mod Demand3
 pub mod RowLaws
 pub mod Edges

@@ -6,7 +6,7 @@ use lib.IntN.{natAbs}
 use lib.Ieee.{Float, nan, inf, fin, lt, neg}
 use Rattle.arith.specs.Double.{_⊕_, _⊘_, dbl, bits, #0, #1, #2}
 use Rattle.arith.specs.Truncation.{truncate}
-use Rattle.expansion.specs.Terms.{#175}
+use Rattle.expansion.specs.Terms.{#175, termsOf}
 use Rattle.modes.specs.declared.checking.Kind.{Kind}
 use Rattle.modes.specs.declared.checking.Kind.the-variants.{Prolate, Oblate}
 use Rattle.modes.specs.declared.checking.Mode.{Mode}
@@ -47,6 +47,10 @@ rowRefusal x = refusalOf #291 x
 
 abbrev pub modeRefusal : Mode → ℕ
 modeRefusal x = refusalOf #175 x
+
+-- ---- 6 for operation 5: N + m is above 200
+unfoldable pub tooManyTerms : Mode → Bool
+tooManyTerms x = ltb 200 (termsOf (x .n - x .m) (x .c) + x .m)
 
 -- ---- 7: cv is NaN or infinite
 unfoldable pub notFinite : Float → Bool

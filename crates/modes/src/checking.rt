@@ -55,6 +55,8 @@ impl Mode {
     pub const ROW_LIMIT: f64 = 291.0;
 
     pub const LIMIT: f64 = 175.0;
+    // What document 01's N and m do not exceed together, for a radial function.
+    pub const PLACES: u32 = 200;
 
     // Document 01's H: (n - m)/2 + c.
     fn h(self) -> f64
@@ -105,5 +107,15 @@ impl Mode {
         ensures { λ r. ⌜ r ≡ Refusals.entriesOf self ⌝ }
     {
         10 + (arith::truncate(self.h()) as u32)
+    }
+
+    // Whether N + m is above 200.
+    pub(crate) fn too_many_terms(self) -> bool
+        requires { ⌜ Refusals.modeRefusal self ≡ 0 ⌝ }
+        ensures { λ r. ⌜ r ≡ Refusals.tooManyTerms self ⌝ }
+    {
+        let m = self.m as u32;
+        let n = self.n as u32;
+        Mode::PLACES < expansion::terms::terms(n - m, self.c) + m
     }
 }

@@ -5,6 +5,7 @@ mod answers;
 mod checking;
 mod expansions;
 mod operations;
+mod radial_functions;
 mod rows;
 
 pub use angular_pairs::angular;
@@ -15,5 +16,6 @@ pub use checking::Mode;
 pub use expansions::coefficients;
 pub use operations::Operation;
 pub use operations::operation_of;
+pub use radial_functions::radial;
 pub use rows::dlmf_row;
 pub use rows::row;
