@@ -1,6 +1,6 @@
 -- The second radial kind at argument zero (`rmn2so`), with the names of the source. Definitions only.
 use Prim.Native.Nat.{ℕ, _-_, _%_}
-use mathlib.Core.Bool.{cond}
+use mathlib.Core.Bool.{true, false, cond}
 use mathlib.Core.List.{List}
 use lib.Dec.{eqb}
 use lib.Ieee.{Float, neg, le}
@@ -33,6 +33,4 @@ rmn2so df ck m n c cv =
     let q = qstar ck m n c ck1 in
     let bk = cbk ck m n c cv (q .qt) in
     let r1 = powersSum ck (secondTerms (n - m) c) ⊘ ck1 in
-    let second = combined ip r1 (q .qs) (at bk 0) in
-    let large = le (abs (at df 0)) #1e-280 in
-    record { value = cond large #1e300 (second .value); derivative = cond large #1e300 (second .derivative) }
+    elim (le (abs (at df 0)) #1e-280) [ true ↦ record { value = #1e300; derivative = #1e300 } | false ↦ combined ip r1 (q .qs) (at bk 0) ]

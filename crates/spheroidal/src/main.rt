@@ -4,7 +4,6 @@
 ghost use mathlib.Core.Path.{_≡_};
 ghost use Prim.Native.Nat.{_+_, _<_, _≤_};
 ghost use lib.ListN.{length};
-use libc::STDERR_FILENO;
 use libc::STDIN_FILENO;
 use libc::STDOUT_FILENO;
 
@@ -13,31 +12,6 @@ fn record_buffer() -> [u8; 65505]
     ensures { λ r. ⌜ 65505 ≡ length r ⌝ }
 {
     [0; 65505]
-}
-
-// Says on the error output that an operation is not built yet: it is no refusal of document 01.
-fn tell(index: u64, operation: u8) {
-    io::write_all(STDERR_FILENO, b"spheroidal: record ");
-    io::print_decimal(STDERR_FILENO, index);
-    io::write_all(STDERR_FILENO, b": operation ");
-    io::print_decimal(STDERR_FILENO, operation as u64);
-    io::write_all(STDERR_FILENO, b" is not built yet\n");
-}
-
-// Tells of the records with operation 5 among those from one byte to another. They have no lines.
-// This goes, with its call, when that operation comes.
-fn tell_not_built(input: &[u8], from: usize, to: usize, first: u64)
-    requires { ⌜ (from ≤ to) × (to ≤ length (now input)) × (first + length (now input) < 18446744073709551616) ⌝ }
-{
-    let mut at = from;
-    let mut index = first;
-    while 33 <= to - at {
-        if input[at + 2] == 5 {
-            tell(index, 5);
-        }
-        at = at + 33;
-        index = index + 1;
-    }
 }
 
 // How far a reading was answered.
@@ -57,7 +31,6 @@ fn answer_reading(input: &[u8], first: u64, out: &mut [u8]) -> Reading
     let mut at: usize = 0;
     while at < input.len() {
         let progress = stream::answer_some(input, at, index, out);
-        tell_not_built(input, at, progress.at, index);
         let written = io::write_all(STDOUT_FILENO, &out[..progress.used]);
         index = progress.index;
         at = progress.at;

@@ -19,6 +19,7 @@ use Rattle.modes.specs.declared.operations.Operation.the-variants.{Row, Angular
 use Rattle.modes.specs.Operations.{operationOf}
 use Rattle.modes.specs.Rows.{rowOf, dlmfOf, blankSlices}
 use Rattle.modes.specs.Angular.{angularOf}
+use Rattle.modes.specs.Radial.{radialOf}
 
 -- the lines of a row's first `count` modes
 unfoldable pub vLines : ℕ → ℕ → Slices → ℕ → List ℕ
@@ -52,8 +53,7 @@ textOf (Row kind) index r = rowText index kind (record { m = r .m; n = r .n; c =
 textOf (DlmfRow kind) index r = dlmfText index kind (record { m = r .m; n = r .n; c = r .c }) (r .allowance)
 textOf (Refused k) index r = rLine index k
 textOf (Angular kind) index r = answerText index (r .m) (r .n) (angularOf kind (record { m = r .m; n = r .n; c = r .c }) (r .cv) (r .x))
--- not built yet
-textOf Radial index r = []
+textOf Radial index r = answerText index (r .m) (r .n) (radialOf (record { m = r .m; n = r .n; c = r .c }) (r .cv) (r .x))
 
 -- the lines of the record with this number
 unfoldable pub responseTo : ℕ → Record → List ℕ

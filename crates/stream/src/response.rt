@@ -178,8 +178,7 @@ fn put_answer(answer: Answer, index: u64, m: u16, n: u16, out: &mut [u8], at: us
     }
 }
 
-// Puts the lines of a record at a place of the buffer, and answers the place after them. Nothing is
-// put for operation 5, which is not built yet.
+// Puts the lines of a record at a place of the buffer, and answers the place after them.
 pub(crate) fn respond(request: Record, index: u64, out: &mut [u8], at: usize) -> usize
     requires { ⌜ at + 17200 ≤ length (now out) ⌝ }
     ensures { λ r. ⌜ Put (now (out .entry)) (now (out .exit)) at r (responseTo index request) ⌝ }
@@ -199,6 +198,9 @@ pub(crate) fn respond(request: Record, index: u64, out: &mut [u8], at: usize) ->
             let answer = modes::angular(kind, mode, request.cv, request.x);
             put_answer(answer, index, request.m, request.n, out, at)
         }
-        Operation::Radial => at,
+        Operation::Radial => {
+            let answer = modes::radial(mode, request.cv, request.x);
+            put_answer(answer, index, request.m, request.n, out, at)
+        }
     }
 }

@@ -1,7 +1,6 @@
 -- `disc::rmn2so::rmn2so` meets its contract. Assumes nothing.
 use borrow.Author.Needs.{needs}
-use mathlib.Core.Path.{_∙_}
-use Rattle.disc.specs.Rmn2so as Rmn2so
+use Rattle.disc.proofs.Laws.{second-large, second-combined}
 use Rattle.disc.proofs.rmn2so.rmn2so.Statement.{statement}
 use Rattle.disc.proofs.rmn2so.rmn2so.Tie as tie
 
@@ -12,8 +11,7 @@ abs-requires : tie.Need-abs-requires
 abs-requires c κs = search needs
 
 returns : tie.Need-returns
-unfolding Rmn2so.rmn2so
-returns c = rw (← c .before .abs .ensures, c .if1 .taken)
+returns c = second-large _ _ _ _ _ _ _ (c .before .abs .ensures) (c .if1 .taken)
 
 kmn-requires : tie.Need-kmn-requires
 kmn-requires c κs = search needs
@@ -43,8 +41,7 @@ combined-requires : tie.Need-combined-requires
 combined-requires c κs = search needs
 
 returns-2 : tie.Need-returns-2
-unfolding Rmn2so.rmn2so
-returns-2 c = rw (← c .before .before .before .before .before .before .before .abs .ensures, c .before .before .before .before .before .before .if1 .left) (c .combined .ensures ∙ rw (c .before .powers-sum .ensures, c .before .before .second-terms .ensures .0, c .before .before .before .cbk .ensures, c .before .before .before .before .qstar .ensures, c .before .before .before .before .before .kmn .ensures))
+returns-2 c = second-combined _ _ _ _ _ _ _ (c .before .before .before .before .before .before .before .abs .ensures) (c .before .before .before .before .before .before .if1 .left) _ (c .before .before .before .before .qstar .result) (c .before .before .before .cbk .result) _ _ _ (c .before .before .before .before .before .kmn .ensures) (c .before .before .before .before .qstar .ensures) (c .before .before .before .cbk .ensures) (c .before .before .second-terms .ensures .0) (c .before .powers-sum .ensures) (c .combined .ensures)
 
 pub rmn2so-spec : {M : Type 1} → statement M
 rmn2so-spec =
