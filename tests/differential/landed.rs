@@ -10,7 +10,7 @@ pub const CLASSES: [(&str, bool); 9] = [
     ("operation 2, oblate row", true),
     ("operation 3, prolate angular", true),
     ("operation 4, oblate angular", true),
-    ("operation 5, oblate radial", false),
+    ("operation 5, oblate radial", true),
     ("operation 6, prolate DLMF row", true),
     ("operation 7, oblate DLMF row", true),
     ("other operations, refused 3", true),
