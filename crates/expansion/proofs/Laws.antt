@@ -21,7 +21,7 @@ use Rattle.expansion.specs.Sums.{converged, blank}
 use Rattle.expansion.specs.Terms.{halfSum, termsOf, clamped, #175}
 use Rattle.expansion.specs.Products.{rising}
 use Rattle.expansion.specs.Sdmn.{below, above, exceeds, reduced, reducedPlaces, storedBelow, descend, descended, downward, climbed, ascended, upward, sumPast, factorAt, normOf, normalised, scaled, expanded}
-use Rattle.expansion.specs.Sckb.{terms, sumOf, filled, valueOf, regulator}
+use Rattle.expansion.specs.Sckb.{terms, sumOf, filled, regulator}
 use Rattle.expansion.specs.Sckb as Sckb
 
 -- ---- how far the sums run

@@ -1,9 +1,8 @@
 -- The coefficients of `sdmn` fill 200 places. Assumes nothing.
 use Prim.Native.Nat.{ℕ, zero, suc, _+_, _-_, _/_}
-use mathlib.Core.Path.{_≡_, refl, sym, ap, _∙_}
+use mathlib.Core.Path.{_≡_, refl, _∙_}
 use mathlib.Core.Bool.{Bool, true, false, cond}
 use mathlib.Core.List.{List}
-use native.Mathlib.Omega.{arith}
 use lib.Dec.{eqb, ltb}
 use lib.Ieee.{Float, lt}
 use lib.ListN.{length, set, length-set, length-replicate}
@@ -12,7 +11,6 @@ use Rattle.expansion.specs.declared.sdmn.Recurrence.{Recurrence}
 use Rattle.expansion.specs.Terms.{termsOf}
 use Rattle.expansion.specs.Sums.{blank}
 use Rattle.expansion.specs.Sdmn.{below, above, second, exceeds, tooLarge, reduced, reducedPlaces, scaled, storedBelow, descend, descended, Downward, downward, climbed, ascended, upward, normOf, normalised, expanded, recurrenceOf, sdmn}
-use Rattle.expansion.proofs.Laws.{descend-stop, descend-on}
 
 -- of either of two lists
 either : (t : Bool) (n : ℕ) (a b : List Float) → length a ≡ n → length b ≡ n → length (cond t a b) ≡ n

@@ -1,5 +1,4 @@
 -- What the sums over expansion coefficients share. Definitions only.
-use Prim.Native.Nat.{ℕ}
 use mathlib.Core.Bool.{Bool}
 use mathlib.Core.List.{List}
 use lib.Ieee.{Float, lt}

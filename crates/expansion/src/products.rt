@@ -1,7 +1,6 @@
 // Products of consecutive numbers, each product rounded, in the order of the source's loops.
 ghost use mathlib.Core.Path.{_≡_};
 ghost use Prim.Native.Nat.{_+_, _<_};
-ghost use lib.ListN.{replicate};
 ghost use Rattle.expansion.specs.Products.{rising, risingBy};
 
 // r times the n whole numbers from a on.

@@ -13,7 +13,6 @@ use lib.Seq.{getD-set-same, getD-set-other}
 use Rattle.arith.specs.Double.{_⊕_, _⊖_, _⊗_, _⊘_, at, #0}
 use Rattle.expansion.specs.Terms.{termsOf}
 use Rattle.expansion.specs.Sums.{blank}
-use Rattle.expansion.specs.declared.sckb.Partial.{Partial}
 use Rattle.joining.specs.Sums.{settled, nextFactor}
 use Rattle.joining.specs.Kmn.{stops, sumOn}
 use Rattle.joining.specs.Qstar.{sAt, skOf, rOf, apUpTo}

@@ -2,7 +2,7 @@
 use Prim.Native.Nat.{ℕ, _+_}
 use mathlib.Core.Bool.{Bool, cond}
 use lib.Dec.{eqb}
-use lib.Ieee.{Float, lt, neg}
+use lib.Ieee.{Float, lt}
 use Rattle.arith.specs.Double.{_⊖_, _⊗_, _⊘_, dbl, #1, #1·5, #1e-14}
 use Rattle.arith.specs.Choice.{abs}
 

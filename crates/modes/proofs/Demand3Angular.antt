@@ -1,17 +1,14 @@
 -- The users' third demand holds of the definition of the public angular pair: both calls are accepted, and their pairs come from |x|. Assumes nothing.
 use Prim.Native.Nat.{ℕ, zero, suc, _-_, _%_, _<_}
 use native.Mathlib.Omega.{arith}
-use mathlib.Core.Path.{_≡_, refl, ap, _∙_}
+use mathlib.Core.Path.{_≡_, refl, ap}
 use mathlib.Core.Bool.{Bool, true, false, cond}
 use lib.Dec.{eqb}
 use lib.Ieee.{Float, nan, inf, fin, neg}
 use Rattle.arith.specs.Choice.{abs}
-use Rattle.angular.specs.declared.aswfa.Pair as Angular
-use Rattle.angular.specs.MirrorLaw.{mirrored}
 use Rattle.angular.proofs.Mirror.{mirror}
 use Rattle.modes.specs.declared.answers.Answer.{Answer}
 use Rattle.modes.specs.declared.answers.Answer.the-variants.{Pair, Quadruple, Refused}
-use Rattle.modes.specs.declared.checking.Kind.{Kind}
 use Rattle.modes.specs.declared.checking.Mode.{Mode}
 use Rattle.modes.specs.Refusals.{signOf}
 use Rattle.modes.specs.Angular.{outside, angularRefusal, angularPair, angularOf}

@@ -1,5 +1,4 @@
 -- The expansion coefficients of a mode. Definition only.
-use Prim.Native.Nat.{ℕ}
 use mathlib.Core.Bool.{cond}
 use mathlib.Core.List.{List, _++_}
 use lib.Dec.{eqb, ltb}

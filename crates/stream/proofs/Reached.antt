@@ -7,7 +7,6 @@ use native.Mathlib.Omega.{arith}
 use borrow.Author.Tests.{le-leb, lt-leb}
 use lib.Dec.{leb}
 use lib.ListN.{length}
-use Rattle.records.specs.declared.record.Next.{Next}
 use Rattle.records.specs.declared.record.Next.the-variants.{Whole, Refused, End}
 use Rattle.records.specs.declared.record.Record.{Record}
 use Rattle.records.specs.Record.{nextAt}

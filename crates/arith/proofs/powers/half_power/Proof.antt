@@ -2,10 +2,6 @@
 use borrow.Author.Needs.{needs}
 use Rattle.arith.proofs.powers.half_power.Statement.{statement}
 use Rattle.arith.proofs.powers.half_power.Tie as tie
-use Rattle.arith.proofs.powers.half_power.Reads as reads
-use Rattle.arith.proofs.powers.half_power.Lts as lts
-use Rattle.arith.proofs.power.Reads as power-reads
-use Rattle.arith.proofs.sqrt.Reads as sqrt-reads
 
 -- src/lib.rt:107:5
 sqrt-requires : tie.Need-sqrt-requires

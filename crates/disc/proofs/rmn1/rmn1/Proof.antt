@@ -1,6 +1,5 @@
 -- `disc::rmn1::rmn1` meets its contract. Assumes nothing.
 use borrow.Author.Needs.{needs}
-use Prim.Native.Nat.{suc}
 use mathlib.Core.Path.{_∙_}
 use Rattle.disc.specs.Rmn1 as Rmn1
 use Rattle.disc.proofs.rmn1.rmn1.Statement.{statement}

@@ -7,7 +7,6 @@ use borrow.Author.Tests.{not-true, not-false}
 use Rattle.expansion.specs.Sdmn as Sdmn
 use Rattle.expansion.specs.Sdmn.{descended}
 use Rattle.expansion.proofs.Laws.{descend-stop, descend-on}
-use mathlib.Core.Bool.{true, false}
 use Rattle.expansion.proofs.sdmn.descend.Statement.{statement}
 use Rattle.expansion.proofs.sdmn.descend.Tie as tie
 

@@ -1,6 +1,5 @@
 -- `joining::qstar::qstar` meets its contract. Assumes nothing.
 use borrow.Author.Needs.{needs}
-use mathlib.Core.Path.{ap}
 use Rattle.joining.specs.Qstar as Qstar
 use Rattle.joining.proofs.qstar.qstar.Statement.{statement}
 use Rattle.joining.proofs.qstar.qstar.Tie as tie
