@@ -1,47 +1,17 @@
 // Times the ported routines beside the Rust original's, in one process: both sides in turn, the best
 // round of each counts.
+#[path = "../tests/ported/library.rs"]
+mod library;
+
 use std::hint::black_box;
 use std::time::Instant;
 
+use library::{
+    routines_aswfa, routines_cbk, routines_kmn, routines_qstar, routines_sckb, routines_sdmn,
+};
 use oracle::answer::{self, Build};
 use oracle::reading::half_offset_plus_c;
 use oracle::record::{Kind, Record};
-
-type Places = [f64; 200];
-
-unsafe extern "C" {
-    safe fn routines_sdmn(m: u32, n: u32, c: f64, cv: f64, kd: f64, df: &mut Places);
-    safe fn routines_sckb(df: &Places, m: u32, n: u32, c: f64, ck: &mut Places);
-    safe fn routines_aswfa(
-        m: u32,
-        n: u32,
-        c: f64,
-        cv: f64,
-        kd: f64,
-        x: f64,
-        value: &mut f64,
-        derivative: &mut f64,
-    );
-    safe fn routines_kmn(df: &Places, m: u32, n: u32, c: f64) -> f64;
-    safe fn routines_qstar(
-        ck: &Places,
-        m: u32,
-        n: u32,
-        c: f64,
-        ck1: f64,
-        qs: &mut f64,
-        qt: &mut f64,
-    );
-    safe fn routines_cbk(
-        ck: &Places,
-        m: u32,
-        n: u32,
-        c: f64,
-        cv: f64,
-        qt: f64,
-        bk: &mut Places,
-    );
-}
 
 const ROUNDS: usize = 15;
 

@@ -6,6 +6,7 @@ mod generator;
 #[allow(dead_code)]
 #[path = "../differential/known.rs"]
 mod known;
+mod library;
 #[allow(dead_code)]
 #[path = "../differential/random.rs"]
 mod random;
@@ -16,6 +17,9 @@ use std::process::ExitCode;
 
 use generator::Generator;
 use known::Input;
+use library::{
+    Places, routines_aswfa, routines_cbk, routines_kmn, routines_qstar, routines_sckb, routines_sdmn,
+};
 use oracle::answer::{self, Build};
 use oracle::reading::coefficient_refusal;
 use oracle::record::{Kind, Record, Request, hex, same};
@@ -24,42 +28,6 @@ use tally::Tally;
 const KNOWN_RECORDS: &str = "tests/oracle/traps.txt";
 const DEFAULT_MODES: usize = 20_000;
 const DEFAULT_SEED: u64 = 20_261_115;
-
-type Places = [f64; 200];
-
-unsafe extern "C" {
-    safe fn routines_sdmn(m: u32, n: u32, c: f64, cv: f64, kd: f64, df: &mut Places);
-    safe fn routines_sckb(df: &Places, m: u32, n: u32, c: f64, ck: &mut Places);
-    safe fn routines_aswfa(
-        m: u32,
-        n: u32,
-        c: f64,
-        cv: f64,
-        kd: f64,
-        x: f64,
-        value: &mut f64,
-        derivative: &mut f64,
-    );
-    safe fn routines_kmn(df: &Places, m: u32, n: u32, c: f64) -> f64;
-    safe fn routines_qstar(
-        ck: &Places,
-        m: u32,
-        n: u32,
-        c: f64,
-        ck1: f64,
-        qs: &mut f64,
-        qt: &mut f64,
-    );
-    safe fn routines_cbk(
-        ck: &Places,
-        m: u32,
-        n: u32,
-        c: f64,
-        cv: f64,
-        qt: f64,
-        bk: &mut Places,
-    );
-}
 
 unsafe extern "C" {
     fn spheroidal_prolate_coefficients(

@@ -1,0 +1,38 @@
+//! The ported routines as `routines_c` exports them. They are declared safe, so whoever calls them
+//! keeps what their contracts ask (crates/routines_c/src/lib.rt): a mode that document 01 accepts.
+
+pub type Places = [f64; 200];
+
+unsafe extern "C" {
+    pub safe fn routines_sdmn(m: u32, n: u32, c: f64, cv: f64, kd: f64, df: &mut Places);
+    pub safe fn routines_sckb(df: &Places, m: u32, n: u32, c: f64, ck: &mut Places);
+    pub safe fn routines_aswfa(
+        m: u32,
+        n: u32,
+        c: f64,
+        cv: f64,
+        kd: f64,
+        x: f64,
+        value: &mut f64,
+        derivative: &mut f64,
+    );
+    pub safe fn routines_kmn(df: &Places, m: u32, n: u32, c: f64) -> f64;
+    pub safe fn routines_qstar(
+        ck: &Places,
+        m: u32,
+        n: u32,
+        c: f64,
+        ck1: f64,
+        qs: &mut f64,
+        qt: &mut f64,
+    );
+    pub safe fn routines_cbk(
+        ck: &Places,
+        m: u32,
+        n: u32,
+        c: f64,
+        cv: f64,
+        qt: f64,
+        bk: &mut Places,
+    );
+}
