@@ -1,5 +1,5 @@
-// Rows and coefficients as C and Rust callers link them. Each function answers document 01's refusal number, or 0,
-// and asks nothing: a slice that is too short is refused 9 and stays as it was.
+// The library as C and Rust callers link it; include/spheroidal.h declares it. Each function answers document 01's
+// refusal number, or 0, and asks nothing: a refused call leaves every place as it was.
 ghost use mathlib.Core.Path.{_≡_};
 ghost use Prim.Native.Nat.{ℕ};
 ghost use Rattle.segv.specs.Row.{slices, answer};
@@ -7,6 +7,10 @@ ghost use Rattle.modes.specs.declared.checking.Kind.the-variants.{Prolate, Obla
 ghost use Rattle.modes.specs.Rows.{rowOf, dlmfOf};
 ghost use Rattle.modes.specs.Answers.{single, given};
 ghost use Rattle.modes.specs.Coefficients.{coefficientsOf};
+ghost use Rattle.modes.specs.Angular.{angularOf};
+ghost use Rattle.modes.specs.Radial.{radialOf};
+ghost use Rattle.spheroidal_c.specs.Places.{twoPlaces, pairPut, fourPlaces, quadruplePut};
+use modes::Answer;
 use modes::Kind;
 use modes::Mode;
 use modes::SliceAnswer;
@@ -46,6 +50,52 @@ fn coefficients(kind: Kind, mode: Mode, cv: f64, values: &mut [f64]) -> u8
     ensures { λ r. ⌜ single r (now (values .exit)) ≡ coefficientsOf kind mode cv (now (values .entry)) ⌝ }
 {
     number(modes::coefficients(kind, mode, cv, values))
+}
+
+// Writes a pair into its places, or nothing for a refusal. The library never answers a call for a pair otherwise.
+fn put_pair(answer: Answer, value: &mut f64, derivative: &mut f64) -> u8
+    ensures { λ r. ⌜ twoPlaces r (now (value .exit)) (now (derivative .exit)) ≡ pairPut answer (now (value .entry)) (now (derivative .entry)) ⌝ }
+{
+    match answer {
+        Answer::Pair(v, d) => {
+            *value = v;
+            *derivative = d;
+            0
+        }
+        Answer::Quadruple(_, _, _, _) => 0,
+        Answer::Refused(refusal) => refusal,
+    }
+}
+
+// The same for both radial kinds.
+fn put_quadruple(
+    answer: Answer,
+    value1: &mut f64,
+    derivative1: &mut f64,
+    value2: &mut f64,
+    derivative2: &mut f64,
+) -> u8
+    ensures { λ r. ⌜ fourPlaces r (now (value1 .exit)) (now (derivative1 .exit)) (now (value2 .exit)) (now (derivative2 .exit))
+        ≡ quadruplePut answer (now (value1 .entry)) (now (derivative1 .entry)) (now (value2 .entry)) (now (derivative2 .entry)) ⌝ }
+{
+    match answer {
+        Answer::Pair(_, _) => 0,
+        Answer::Quadruple(v1, d1, v2, d2) => {
+            *value1 = v1;
+            *derivative1 = d1;
+            *value2 = v2;
+            *derivative2 = d2;
+            0
+        }
+        Answer::Refused(refusal) => refusal,
+    }
+}
+
+fn angular(kind: Kind, mode: Mode, cv: f64, x: f64, value: &mut f64, derivative: &mut f64) -> u8
+    ensures { λ r. ⌜ twoPlaces r (now (value .exit)) (now (derivative .exit))
+        ≡ pairPut (angularOf kind mode cv x) (now (value .entry)) (now (derivative .entry)) ⌝ }
+{
+    put_pair(modes::angular(kind, mode, cv, x), value, derivative)
 }
 
 // The characteristic values of the modes from m to n, each with its step number and its bracket.
@@ -151,4 +201,62 @@ pub extern "C" fn spheroidal_oblate_coefficients(
     ensures { λ r. ⌜ single r (now (values .exit)) ≡ coefficientsOf Oblate (record { m = m; n = n; c = c }) cv (now (values .entry)) ⌝ }
 {
     coefficients(Kind::Oblate, Mode { m, n, c }, cv, values)
+}
+
+// The angular function of a mode with the characteristic value cv, and its derivative, at x.
+#[no_mangle]
+pub extern "C" fn spheroidal_prolate_angular(
+    m: u16,
+    n: u16,
+    c: f64,
+    cv: f64,
+    x: f64,
+    value: &mut f64,
+    derivative: &mut f64,
+) -> u8
+    ensures { λ r. ⌜ twoPlaces r (now (value .exit)) (now (derivative .exit))
+        ≡ pairPut (angularOf Prolate (record { m = m; n = n; c = c }) cv x) (now (value .entry)) (now (derivative .entry)) ⌝ }
+{
+    angular(Kind::Prolate, Mode { m, n, c }, cv, x, value, derivative)
+}
+
+#[no_mangle]
+pub extern "C" fn spheroidal_oblate_angular(
+    m: u16,
+    n: u16,
+    c: f64,
+    cv: f64,
+    x: f64,
+    value: &mut f64,
+    derivative: &mut f64,
+) -> u8
+    ensures { λ r. ⌜ twoPlaces r (now (value .exit)) (now (derivative .exit))
+        ≡ pairPut (angularOf Oblate (record { m = m; n = n; c = c }) cv x) (now (value .entry)) (now (derivative .entry)) ⌝ }
+{
+    angular(Kind::Oblate, Mode { m, n, c }, cv, x, value, derivative)
+}
+
+// Both oblate radial functions of a mode with the characteristic value cv on the disc, where x is zero.
+#[no_mangle]
+pub extern "C" fn spheroidal_oblate_radial(
+    m: u16,
+    n: u16,
+    c: f64,
+    cv: f64,
+    x: f64,
+    value1: &mut f64,
+    derivative1: &mut f64,
+    value2: &mut f64,
+    derivative2: &mut f64,
+) -> u8
+    ensures { λ r. ⌜ fourPlaces r (now (value1 .exit)) (now (derivative1 .exit)) (now (value2 .exit)) (now (derivative2 .exit))
+        ≡ quadruplePut (radialOf (record { m = m; n = n; c = c }) cv x) (now (value1 .entry)) (now (derivative1 .entry)) (now (value2 .entry)) (now (derivative2 .entry)) ⌝ }
+{
+    put_quadruple(
+        modes::radial(Mode { m, n, c }, cv, x),
+        value1,
+        derivative1,
+        value2,
+        derivative2,
+    )
 }
