@@ -5,6 +5,7 @@ use mathlib.Core.Logic.{⊎-elim}
 use mathlib.Core.Bool.{Bool, true, false, cond}
 use mathlib.Core.List.{List}
 use native.Mathlib.Omega.{arith}
+use native.Mathlib.Numerals.{add-one}
 use native.Mathlib.Nat.{sub-zero, eq-or-lt-of-le}
 use lib.IntN.{ℤ, pos, natAbs}
 use lib.Ieee.{Float, neg, lt, le, add, div, ofInt, ofBits}
@@ -21,7 +22,7 @@ use Rattle.expansion.specs.Sums.{converged, blank}
 use Rattle.expansion.specs.Terms.{halfSum, termsOf, clamped, #175}
 use Rattle.expansion.specs.Products.{rising}
 use Rattle.expansion.specs.Sdmn.{below, above, exceeds, reduced, reducedPlaces, storedBelow, descend, descended, downward, climbed, ascended, upward, sumPast, factorAt, normOf, normalised, scaled, expanded}
-use Rattle.expansion.specs.Sckb.{terms, sumOf, filled, regulator}
+use Rattle.expansion.specs.Sckb.{terms, sumOf, valueOf, filled, regulator}
 use Rattle.expansion.specs.Sckb as Sckb
 
 -- ---- how far the sums run
@@ -109,11 +110,14 @@ module _ (df : List Float) (m ip k left i : ℕ) (r r' sum sw : Float) (hr : r' 
   unfolding terms
   terms-on h = rw hr (sym (rw (rw hr at h, terms)))
 
--- ---- a power coefficient
-pub filled-on : (df : List Float) (m ip nm left k : ℕ) (fac sw reg r1 : Float) (p : Partial) (ck : List Float) → reg ≡ regulator m nm → p ≡ sumOf df m ip nm reg k sw
-    → r1 ≡ Sckb.factorial reg (m + k) → filled df m ip nm left (suc k) (neg fac) (p .sw) (set ck k (neg fac ⊗ p .sum ⊘ r1)) ≡ filled df m ip nm (suc left) k fac sw ck
+-- ---- a power coefficient is put into its place
+pub put-on : (df : List Float) (m ip nm count : ℕ) (reg : Float) (k k' : ℕ) (fac fac' sw sw' : Float) (p : Partial) (ck ck' : List Float) → k < count → reg ≡ regulator m nm
+    → p ≡ sumOf df m ip nm reg k sw → ck' ≡ set ck k (valueOf reg m k (neg fac) (p .sum)) → k' ≡ k + 1 → fac' ≡ neg fac → sw' ≡ p .sw
+    → filled df m ip nm (count - k') k' fac' sw' ck' ≡ filled df m ip nm (count - k) k fac sw ck
 unfolding filled
-filled-on df m ip nm left k fac sw reg r1 p ck hg hp hr = rw (hr, hp, hg)
+put-on df m ip nm count reg k k' fac fac' sw sw' p ck ck' l hg hp hck hk hf hs =
+    let left : count - k ≡ suc (count - suc k) = omega arith in
+    rw (hk, hf, hs, hck, hp, hg, add-one k, left)
 
 -- ---- reg × (n + 1)! from reg × n!
 pub factorial-on : (reg : Float) (n : ℕ) → 0 < n → Sckb.factorial reg n ⊗ dbl (n + 1) ≡ Sckb.factorial reg (n + 1)

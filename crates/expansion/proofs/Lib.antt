@@ -3,3 +3,4 @@ pub mod Laws
 pub mod First
 pub mod Lengths
 pub mod Halves
+mod Abreast

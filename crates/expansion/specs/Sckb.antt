@@ -32,10 +32,14 @@ terms df m ip k (suc left) i r sum sw =
     let sum' = sum ⊕ r' ⊗ at df i in
     elim (converged sw sum') [ true ↦ record { sum = sum'; sw = sw } | false ↦ terms df m ip k left (suc i) r' sum' sum' ]
 
+-- the factor of the first term of coefficient k
+unfoldable pub firstFactor : ℕ → ℕ → Float → ℕ → Float
+firstFactor m ip reg k = risingBy (rising reg (2 * k + ip + 1) (2 * m)) (k + m + ip) #0·5 k
+
 -- the sum of coefficient k, from the sum remembered
 unfoldable pub sumOf : List Float → ℕ → ℕ → ℕ → Float → ℕ → Float → Partial
 sumOf df m ip nm reg k sw =
-    let r = risingBy (rising reg (2 * k + ip + 1) (2 * m)) (k + m + ip) #0·5 k in
+    let r = firstFactor m ip reg k in
     terms df m ip k (nm - k) (suc k) r (r ⊗ at df k) sw
 
 -- reg × n!, from reg on

@@ -1,7 +1,10 @@
 -- `expansion::sckb::sum_of` meets its contract. Assumes nothing.
 use borrow.Author.Needs.{needs}
-use mathlib.Core.Path.{_∙_}
-use Rattle.expansion.specs.Sckb.{sumOf}
+use Prim.Native.Nat.{suc, _+_, _-_}
+use mathlib.Core.Path.{_≡_, _∙_}
+use native.Mathlib.Omega.{arith}
+use native.Mathlib.Numerals.{add-one}
+use Rattle.expansion.specs.Sckb.{firstFactor, sumOf}
 use Rattle.expansion.proofs.sckb.sum_of.Statement.{statement}
 use Rattle.expansion.proofs.sckb.sum_of.Tie as tie
 
@@ -29,6 +32,9 @@ add-rise-by-2 c = search needs
 rise-by-requires : tie.Need-rise-by-requires
 rise-by-requires c κs = search needs
 
+add-sum-terms : tie.Need-add-sum-terms
+add-sum-terms c = search needs
+
 mul-sum-terms : tie.Need-mul-sum-terms
 mul-sum-terms c = search needs
 
@@ -39,8 +45,9 @@ sum-terms-requires : tie.Need-sum-terms-requires
 sum-terms-requires c κs = search needs
 
 returns : tie.Need-returns
-unfolding sumOf
-returns c = c .sum-terms .ensures ∙ rw (c .before .before .rise-by .ensures, c .before .before .before .rise .ensures)
+unfolding firstFactor sumOf
+returns c = let h : suc (c .before .before .before .before .args .nm) - (c .before .before .before .before .args .k + 1) ≡ c .before .before .before .before .args .nm - c .before .before .before .before .args .k = omega arith in
+    c .sum-terms .ensures ∙ rw (h, add-one (c .before .before .before .before .args .k), c .before .before .rise-by .ensures, c .before .before .before .rise .ensures)
 
 pub sum-of-spec : {M : Type 1} → statement M
 sum-of-spec =
@@ -54,6 +61,7 @@ sum-of-spec =
     add-rise-by
     add-rise-by-2
     rise-by-requires
+    add-sum-terms
     mul-sum-terms
     element-copy-out-sum-terms
     sum-terms-requires

@@ -1,7 +1,7 @@
 -- `expansion::sckb::sum_terms` meets its contract. The invariant: what is left to add gives what the whole gives. Assumes nothing.
 use borrow.Author.Needs.{needs}
-use Prim.Native.Nat.{_≤_, _-_, _<_, suc, _+_}
-use mathlib.Core.Path.{_≡_, sym, _∙_}
+use Prim.Native.Nat.{suc, _+_, _-_, _<_, _≤_}
+use mathlib.Core.Path.{_≡_, refl, sym, _∙_}
 use native.Mathlib.Omega.{arith}
 use native.Mathlib.Numerals.{add-one}
 use Rattle.expansion.specs.Sckb.{terms}
@@ -10,16 +10,13 @@ use Rattle.expansion.proofs.sckb.sum_terms.Statement.{statement}
 use Rattle.expansion.proofs.sckb.sum_terms.Tie as tie
 
 abbrev Inv-loop : tie.InvT-loop
-Inv-loop df m ip k nm first sum0 sw0 r₀ sum₀ sw₀ i₀ r sum sw i = (k < i) × (i ≤ suc nm) × (terms df m ip k (suc nm - i) i r sum sw ≡ terms df m ip k (nm - k) (suc k) first sum0 sw0)
+Inv-loop df m ip k nm from before sum0 sw0 r₀ sum₀ sw₀ i₀ r sum sw i = (k < i) × (i ≤ suc nm) × (terms df m ip k (suc nm - i) i r sum sw ≡ terms df m ip k (suc nm - from) from before sum0 sw0)
 
 abbrev μ-loop : tie.MeasureT-loop
-μ-loop df m ip k nm first sum0 sw0 r₀ sum₀ sw₀ i₀ r sum sw i = suc nm - i
-
-add-i : tie.Need-add-i Inv-loop μ-loop
-add-i c = search needs
+μ-loop df m ip k nm from before sum0 sw0 r₀ sum₀ sw₀ i₀ r sum sw i = suc nm - i
 
 loop-holds : tie.Need-loop-holds Inv-loop μ-loop
-loop-holds c = let h : suc (c .args .nm) - (c .args .k + 1) ≡ c .args .nm - c .args .k = omega arith in (omega arith, omega arith, rw (h, add-one (c .args .k)))
+loop-holds c = (omega arith, omega arith, refl)
 
 next-factor-requires : tie.Need-next-factor-requires Inv-loop μ-loop
 next-factor-requires c κs = search needs
@@ -37,28 +34,25 @@ converged-requires : tie.Need-converged-requires Inv-loop μ-loop
 converged-requires c κs = search needs
 
 returns : tie.Need-returns Inv-loop μ-loop
-returns c =
-    let a = c .before .before .before .before .before .before .args in
+returns c = let a = c .before .before .before .before .before .before .args in
     let l = c .before .before .before .before .before .loop in
     let h : suc (a .nm) - l .i ≡ suc (a .nm - l .i) = omega arith in
     terms-stop _ (a .m) (a .ip) (a .k) (a .nm - l .i) (l .i) (l .r) _ (l .sum) (l .sw) (c .before .before .before .next-factor .ensures) (sym (c .before .converged .ensures) ∙ c .if1 .taken) ∙ rw h at (l .inv .2)
 
-add-i-2 : tie.Need-add-i-2 Inv-loop μ-loop
-add-i-2 c = search needs
+add-i : tie.Need-add-i Inv-loop μ-loop
+add-i c = search needs
 
 loop-less : tie.Need-loop-less Inv-loop μ-loop
 loop-less c = search needs
 
 loop-again : tie.Need-loop-again Inv-loop μ-loop
-loop-again c =
-    let a = c .before .before .before .before .before .before .args in
+loop-again c = let a = c .before .before .before .before .before .before .args in
     let l = c .before .before .before .before .before .loop in
     let h : suc (a .nm) - l .i ≡ suc (a .nm - l .i) = omega arith in
     let h' : suc (a .nm) - (l .i + 1) ≡ a .nm - l .i = omega arith in (
       omega arith,
       omega arith,
-      rw (h', add-one (l .i))
-          (terms-on _ (a .m) (a .ip) (a .k) (a .nm - l .i) (l .i) (l .r) _ (l .sum) (l .sw) (c .before .before .before .next-factor .ensures) (sym (c .before .converged .ensures) ∙ c .if1 .left) ∙ rw h at (l .inv .2)),
+      rw (h', add-one (l .i)) (terms-on _ (a .m) (a .ip) (a .k) (a .nm - l .i) (l .i) (l .r) _ (l .sum) (l .sw) (c .before .before .before .next-factor .ensures) (sym (c .before .converged .ensures) ∙ c .if1 .left) ∙ rw h at (l .inv .2)),
     )
 
 returns-2 : tie.Need-returns-2 Inv-loop μ-loop
@@ -71,7 +65,6 @@ sum-terms-spec =
     (tie.spec
     Inv-loop
     μ-loop
-    add-i
     loop-holds
     next-factor-requires
     cast-sum
@@ -79,7 +72,7 @@ sum-terms-spec =
     element-copy-out-sum
     converged-requires
     returns
-    add-i-2
+    add-i
     loop-less
     loop-again
     returns-2)
