@@ -70,9 +70,10 @@ module _ (xs ys : List Float) (nm2 : ℕ) (few : 1 ≤ nm2) (same : Agree (nm2 +
   before-signs-same m ip x = rw (value-same _, derivative-same _, same 0 (omega arith), same 1 (omega arith))
 
 -- ---- the pair from its parts
-pub aswfa-is : (m n : ℕ) (c cv kd x0 : Float) (nm2 : ℕ) (df ck : List Float) (x : Float) (p : Pair) (v d : Float) → nm2 ≡ nm2Of (n - m) c → 1 ≤ nm2 → df ≡ sdmn m n c cv kd
-    → ck ≡ sckbFirst df m n c (nm2 + 1) → x ≡ abs x0 → p ≡ beforeSigns ck m ((n - m) % 2) nm2 x → v ≡ signAt x0 (eqb ((n - m) % 2) 1) (p .value) → d ≡ signAt x0 (eqb ((n - m) % 2) 0) (p .derivative)
+pub aswfa-is : (m n : ℕ) (c cv kd x0 : Float) (nm2 count : ℕ) (df ck : List Float) (x : Float) (p : Pair) (v d : Float) → nm2 ≡ nm2Of (n - m) c → 1 ≤ nm2 → nm2 < count → df ≡ sdmn m n c cv kd
+    → ck ≡ sckbFirst df m n c count → x ≡ abs x0 → p ≡ beforeSigns ck m ((n - m) % 2) nm2 x → v ≡ signAt x0 (eqb ((n - m) % 2) 1) (p .value) → d ≡ signAt x0 (eqb ((n - m) % 2) 0) (p .derivative)
     → record { value = v; derivative = d } ≡ aswfa m n c cv kd x0
 unfolding aswfa
-aswfa-is m n c cv kd x0 nm2 df ck x p v d hn few hf hc hx hp hv hd =
-    rw (hv, hd, hp, hc, before-signs-same (sckbFirst df m n c (nm2 + 1)) (sckb df m n c) nm2 few (first-agrees df m n c (nm2 + 1)) m ((n - m) % 2) x, hf, hx, hn)
+aswfa-is m n c cv kd x0 nm2 count df ck x p v d hn few enough hf hc hx hp hv hd =
+    let same : Agree (nm2 + 1) (sckbFirst df m n c count) (sckb df m n c) = λ i l. first-agrees df m n c count i (omega arith) in
+    rw (hv, hd, hp, hc, before-signs-same (sckbFirst df m n c count) (sckb df m n c) nm2 few same m ((n - m) % 2) x, hf, hx, hn)

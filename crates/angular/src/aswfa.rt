@@ -101,7 +101,9 @@ pub fn aswfa(m: u32, n: u32, c: f64, cv: f64, kd: f64, x: f64) -> Pair
     let ip = (n - m) % 2;
     let nm2 = super::limit::nm2_of(n - m, c);
     let df = expansion::sdmn::sdmn(m, n, c, cv, kd);
-    let ck = expansion::sckb::sckb_first(&df, m, n, c, nm2 + 1);
+    // The coefficients up to nm2, and as many more as make fours: these are summed at once.
+    let count = nm2 / 4 * 4 + 4;
+    let ck = expansion::sckb::sckb_first(&df, m, n, c, count);
     let p = before_signs(&ck, m, ip, nm2, arith::abs(x));
     Pair {
         value: sign_at(x, ip == 1, p.value),

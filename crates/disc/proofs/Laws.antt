@@ -15,14 +15,14 @@ use Rattle.arith.proofs.Unsigned.{dbl-unsigned}
 use Rattle.arith.proofs.Laws.{truncate-sum-below, reads-back}
 use Rattle.expansion.specs.Terms.{halfSum, #175}
 use Rattle.expansion.proofs.Halves.{half-below, whole-and-part}
-use Rattle.joining.specs.Sums.{settled, nextFactor}
+use Rattle.joining.specs.Sums.{settled}
 use Rattle.joining.specs.Kmn.{kmn}
 use Rattle.joining.specs.declared.qstar.Factors.{Factors}
 use Rattle.joining.specs.Qstar.{qstar}
 use Rattle.joining.specs.Cbk.{cbk}
 use Rattle.disc.specs.declared.rmn1.Kind.{Kind}
 use Rattle.disc.specs.Limits.{firstTerms, secondTerms}
-use Rattle.disc.specs.Rmn1.{stops, sucOn, powersOn, powersSum}
+use Rattle.disc.specs.Rmn1.{powersOn, powersSum}
 use Rattle.disc.specs.Rmn2so.{combined, rmn2so}
 
 -- ---- how far the sums run: the whole parts, and as the machine reads them back
@@ -38,16 +38,6 @@ module _ (offset : ℕ) (c : Float) (z : ℤ) (o : offset < 200) (p : lt c #0 �
   second-whole e =
       let k = truncate-sum-below (dbl (offset / 2)) c #175 175 (dbl-unsigned (offset / 2)) (refl, refl) (omega arith) (omega arith) p (half-below offset c o p q) in
       (k .0, reads-back z (k .0) (e ∙ k .1) (omega (arith, k .2)), k .2, ap (λ (z : ℤ). 25 + natAbs z) (sym (k .1)))
-
--- ---- a term of the sum over the expansion coefficients
-module _ (df : List Float) (m ip nm1 left k : ℕ) (r r' sum sw : Float) (hr : r' ≡ nextFactor m ip k r) where
-  pub suc-stop : stops nm1 k (sum ⊕ r' ⊗ at df (k - 1)) sw ≡ true → sum ⊕ r' ⊗ at df (k - 1) ≡ sucOn df m ip nm1 (suc left) k r sum sw
-  unfolding sucOn
-  suc-stop h = rw hr (sym (rw (rw hr at h, sucOn)))
-
-  pub suc-on : stops nm1 k (sum ⊕ r' ⊗ at df (k - 1)) sw ≡ false → sucOn df m ip nm1 left (suc k) r' (sum ⊕ r' ⊗ at df (k - 1)) (sum ⊕ r' ⊗ at df (k - 1)) ≡ sucOn df m ip nm1 (suc left) k r sum sw
-  unfolding sucOn
-  suc-on h = rw hr (sym (rw (rw hr at h, sucOn)))
 
 -- ---- a term of the sum of the power coefficients
 module _ (ck : List Float) (left j : ℕ) (sum sw : Float) where

@@ -13,18 +13,19 @@ use lib.Seq.{getD-set-same, getD-set-other}
 use Rattle.arith.specs.Double.{_⊕_, _⊖_, _⊗_, _⊘_, at, #0}
 use Rattle.expansion.specs.Terms.{termsOf}
 use Rattle.expansion.specs.Sums.{blank}
-use Rattle.joining.specs.Sums.{settled, nextFactor}
-use Rattle.joining.specs.Kmn.{stops, sumOn}
+use Rattle.joining.specs.declared.sums.Test.{Test}
+use Rattle.joining.specs.Sums.{settled, nextFactor, stops, sumOn}
 use Rattle.joining.specs.Qstar.{sAt, skOf, rOf, apUpTo}
 use Rattle.joining.specs.Cbk.{added, r1At, s1From, rightSides, vAt, wAt, Solved, solved, rows, eliminated, substituted, cbk}
 
--- ---- a term of the sum of `kmn`
-module _ (df : List Float) (m ip half left k : ℕ) (r r' su0 sw : Float) (hr : r' ≡ nextFactor m ip k r) where
-  pub sum-stop : stops half k (su0 ⊕ r' ⊗ at df (k - 1)) sw ≡ true → su0 ⊕ r' ⊗ at df (k - 1) ≡ sumOn df m ip half (suc left) k r su0 sw
+-- ---- a term of the sum over the expansion coefficients
+module _ (test : Test) (df : List Float) (m ip half left k : ℕ) (r r' sum sw : Float) (hr : r' ≡ nextFactor m ip k r) where
+  pub sum-stop : stops test half k (sum ⊕ r' ⊗ at df (k - 1)) sw ≡ true → sum ⊕ r' ⊗ at df (k - 1) ≡ sumOn test df m ip half (suc left) k r sum sw
   unfolding sumOn
   sum-stop h = rw hr (sym (rw (rw hr at h, sumOn)))
 
-  pub sum-on : stops half k (su0 ⊕ r' ⊗ at df (k - 1)) sw ≡ false → sumOn df m ip half left (suc k) r' (su0 ⊕ r' ⊗ at df (k - 1)) (su0 ⊕ r' ⊗ at df (k - 1)) ≡ sumOn df m ip half (suc left) k r su0 sw
+  pub sum-on : stops test half k (sum ⊕ r' ⊗ at df (k - 1)) sw ≡ false
+      → sumOn test df m ip half left (suc k) r' (sum ⊕ r' ⊗ at df (k - 1)) (sum ⊕ r' ⊗ at df (k - 1)) ≡ sumOn test df m ip half (suc left) k r sum sw
   unfolding sumOn
   sum-on h = rw hr (sym (rw (rw hr at h, sumOn)))
 

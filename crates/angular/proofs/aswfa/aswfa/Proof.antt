@@ -1,5 +1,6 @@
 -- `angular::aswfa::aswfa` meets its contract. Assumes nothing.
 use borrow.Author.Needs.{needs}
+use Prim.Native.Nat.{_+_, _*_, _/_}
 use native.Mathlib.Omega.{arith}
 use Rattle.angular.proofs.Laws.{aswfa-is}
 use Rattle.angular.proofs.aswfa.aswfa.Statement.{statement}
@@ -17,8 +18,11 @@ nm2-of-requires c κs = search needs
 sdmn-requires : tie.Need-sdmn-requires
 sdmn-requires c κs = search needs
 
-add-sckb-first : tie.Need-add-sckb-first
-add-sckb-first c = search needs
+mul-count : tie.Need-mul-count
+mul-count c = search needs
+
+add-count : tie.Need-add-count
+add-count c = search needs
 
 sckb-first-requires : tie.Need-sckb-first-requires
 sckb-first-requires c κs = search needs
@@ -36,9 +40,8 @@ sign-at-requires-2 : tie.Need-sign-at-requires-2
 sign-at-requires-2 c κs = search needs
 
 returns : tie.Need-returns
-returns c =
-    let a = c .before .before .before .before .before .before .before .before .before .args in
-    aswfa-is (a .m) (a .n) (a .c) (a .cv) (a .kd) (a .x) (c .before .before .before .before .before .before .before .before .nm2-of .result) _ _ _ (c .before .before .before-signs .result) _ _ (c .before .before .before .before .before .before .before .before .nm2-of .ensures .0) (omega arith) (c .before .before .before .before .before .before .before .sdmn .ensures) (c .before .before .before .before .before .sckb-first .ensures) (c .before .before .before .abs .ensures) (c .before .before .before-signs .ensures) (c .before .sign-at .ensures) (c .sign-at2 .ensures)
+returns c = let a = c .before .before .before .before .before .before .before .before .before .args in
+    aswfa-is (a .m) (a .n) (a .c) (a .cv) (a .kd) (a .x) (c .before .before .before .before .before .before .before .before .nm2-of .result) (c .before .before .before .before .before .before .before .before .nm2-of .result / 4 * 4 + 4) _ _ _ (c .before .before .before-signs .result) _ _ (c .before .before .before .before .before .before .before .before .nm2-of .ensures .0) (omega arith) (omega arith) (c .before .before .before .before .before .before .before .sdmn .ensures) (c .before .before .before .before .before .sckb-first .ensures) (c .before .before .before .abs .ensures) (c .before .before .before-signs .ensures) (c .before .sign-at .ensures) (c .sign-at2 .ensures)
 
 pub aswfa-spec : {M : Type 1} → statement M
 aswfa-spec =
@@ -48,7 +51,8 @@ aswfa-spec =
     sub-nm2-of
     nm2-of-requires
     sdmn-requires
-    add-sckb-first
+    mul-count
+    add-count
     sckb-first-requires
     abs-requires
     before-signs-requires

@@ -13,20 +13,27 @@ sub-terms c = search needs
 terms-requires : tie.Need-terms-requires
 terms-requires c κs = search needs
 
-sub-su0-of : tie.Need-sub-su0-of
-sub-su0-of c = search needs
+sub-expansion-sum : tie.Need-sub-expansion-sum
+sub-expansion-sum c = search needs
 
-su0-of-requires : tie.Need-su0-of-requires
-su0-of-requires c κs = search needs
+expansion-sum-requires : tie.Need-expansion-sum-requires
+expansion-sum-requires c κs = search needs
 
 sa0-of-requires : tie.Need-sa0-of-requires
 sa0-of-requires c κs = search needs
 
 returns : tie.Need-returns
 unfolding Kmn.kmn
-returns c = rw (c .sa0-of .ensures, c .before .su0-of .ensures, c .before .before .terms .ensures .0)
+returns c = rw (c .sa0-of .ensures, c .before .expansion-sum .ensures, c .before .before .terms .ensures .0)
 
 pub kmn-spec : {M : Type 1} → statement M
 kmn-spec =
     tie.close
-    (tie.spec sub-ip sub-terms terms-requires sub-su0-of su0-of-requires sa0-of-requires returns)
+    (tie.spec
+    sub-ip
+    sub-terms
+    terms-requires
+    sub-expansion-sum
+    expansion-sum-requires
+    sa0-of-requires
+    returns)
