@@ -17,5 +17,5 @@ use Rattle.modes.specs.Radial.{radialRefusal, radialKinds}
 use Rattle.modes.specs.Edges.{Edge, edges, refusalTo, valuesTo, outcome}
 
 pub edges-right : map outcome edges ≡ map (λ (e : Edge). (e .refusal, e .values)) edges
-unfolding computed edges refusalTo valuesTo rowOf rowIn tooShort refusalOf outOfRange noParameter notFinite hOf signOf zeroAt blankSlices written writtenRow segvRow eitherStopped bothFamilies familyOf bisectedFamily familyFrom bisection outside angularRefusal angularPair tooManyTerms radialRefusal radialKinds rswfo rmn2so Rmn1.rmn1 Rmn1.placed Rmn1.sa0Of Rmn1.r2Of Rmn1.powersOn Rmn1.sucOf Rmn1.sucOn Rmn1.stops Joining.settled Joining.parityPower firstTerms secondTerms
+unfolding computed edges refusalTo valuesTo rowOf rowIn tooShort refusalOf outOfRange noParameter notFinite hOf signOf zeroAt blankSlices written writtenRow segvRow eitherStopped bothFamilies familyOf bisectedFamily familyFrom bisection outside angularRefusal angularPair tooManyTerms radialRefusal radialKinds rswfo rmn2so Rmn1.rmn1 Rmn1.placed Rmn1.r2Of Rmn1.powersOn Joining.sa0Above Joining.sa0Below Joining.parityPower Joining.expansionSum Joining.sumOn Joining.stops Joining.settledBy Joining.settled firstTerms secondTerms
 edges-right = refl
