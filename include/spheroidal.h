@@ -17,11 +17,12 @@
  *   as many places as the length after it says, or to one place where no length follows.
  * - The places lent in one call do not overlap each other.
  * - No other thread uses these places during the call.
- * - The floating-point environment is C's default: rounding to nearest, subnormal numbers kept.
- *   (gcc's -ffast-math, given when a program is linked, may let the processor flush them.)
+ * - The floating-point environment is C's default: rounding to nearest, subnormal numbers kept. A
+ *   program that gcc links with -ffast-math has them flushed to zero, and gets other bits.
  *
  * The functions keep no state, allocate nothing, touch no errno and may run in any number of threads
- * at once.
+ * at once. Measured, they use up to 37 KB of stack in rows, 12 KB in radial functions and 6 KB in the
+ * others.
  */
 #ifndef SPHEROIDAL_H
 #define SPHEROIDAL_H
@@ -65,13 +66,15 @@ extern "C" {
 
 /*
  * The characteristic values of the modes m, m + 1, .., n, in this order, by bisection. Place j of
- * each buffer belongs to mode m + j: its value, the number of steps, and the bracket's lower and upper
- * end at the last step. Where c is below 1e-10, value and bracket are (m + j)(m + j + 1) with 0 steps.
+ * each buffer belongs to mode m + j: its value, the number of steps, and the bracket's lower and
+ * upper end at the last step. Where c is below 1e-10, value and bracket are (m + j)(m + j + 1), with
+ * 0 steps.
  *
  * The allowance is the most steps that each value may use; one that needs more refuses the whole row
- * (10). A larger allowance never changes an accepted row, so SPHEROIDAL_LARGEST_ALLOWANCE is the usual
- * choice, and a smaller one bounds the time. One more value than the row's may be bisected, so that
- * the largest step number need not suffice as an allowance.
+ * (10). A larger allowance never changes an accepted row, so SPHEROIDAL_LARGEST_ALLOWANCE is the
+ * usual choice, and a smaller one bounds the time. Of some 200,000 rows tried, values next to zero
+ * among them, none needed more than 132 steps; that none can is not proved. Where n - m is even, a
+ * value past n is bisected too, so that the largest step number need not suffice as an allowance.
  *
  * Writes n - m + 1 places of each of the four buffers. Refusals: 4, 5, 6, 9, 10.
  */
@@ -109,7 +112,7 @@ uint8_t spheroidal_oblate_coefficients(uint16_t m, uint16_t n, double c, double 
 
 /*
  * The angular function of mode n and its derivative at x, from -1 to 1, with cv as above. At x of -1
- * and 1 a derivative that is infinite (m = 1) is answered as 1e100 with its sign.
+ * and 1 the derivative for m = 1, which is infinite, is answered as 1e100 or -1e100.
  *
  * Writes *value and *derivative. Refusals: 4, 5, 6, 7, 8.
  */

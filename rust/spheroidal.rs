@@ -295,7 +295,7 @@ fn answer(number: u8) -> Result<(), Refusal> {
         8 => Err(Refusal::Argument),
         9 => Err(Refusal::Buffer),
         10 => Err(Refusal::Allowance),
-        _ => unreachable!("the library answers 0 or 4 to 10, not {number}"),
+        _ => unreachable!("the library answers 0 or 4 to 10"),
     }
 }
 

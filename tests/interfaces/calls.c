@@ -173,7 +173,8 @@ static void row_with(size_t number, const size_t lengths[4], int is_short, int f
     check(doubles_right(uppers, fill, expected_uppers, count), name, number, "uppers");
 }
 
-/* Buffers just long enough, longer, of different lengths, each in turn too short by one, and empty. */
+/* Buffers just long enough, longer, of different lengths, each in turn too short by one, and empty.
+ */
 static void check_row(size_t number, int fill) {
     size_t needed = places_of(row_calls[number].m, row_calls[number].n);
     size_t lengths[4] = {needed, needed, needed, needed};
@@ -300,7 +301,8 @@ static void check_limits(void) {
           "m above the largest");
     check(plain_row(m, (uint16_t)(n + 1), 0.0, places) == SPHEROIDAL_REFUSED_MODE_NUMBERS, name, 3,
           "n - m above the largest");
-    check(plain_row(0, 1, -1.0, places) == SPHEROIDAL_REFUSED_SIZE_PARAMETER, name, 4, "c below zero");
+    check(plain_row(0, 1, -1.0, places) == SPHEROIDAL_REFUSED_SIZE_PARAMETER, name, 4,
+          "c below zero");
     check(plain_row(0, 0, SPHEROIDAL_ROW_LIMIT, places) == SPHEROIDAL_REFUSED_TOO_LARGE, name, 5,
           "row limit");
     check(plain_row(0, 0, SPHEROIDAL_ROW_LIMIT - 0.5, places) == SPHEROIDAL_OK, name, 6,
