@@ -14,6 +14,9 @@
 //! No argument is forbidden and none makes these functions panic. They keep no state and may run in
 //! any number of threads.
 
+// a program that takes this file in need not use all of it
+#![allow(dead_code)]
+
 use std::error::Error;
 use std::fmt;
 

@@ -53,7 +53,7 @@ struct radial_call {
 
 /* A lent buffer stands inside a block, with places before and behind that nothing may touch. */
 #define GUARD 8
-#define LONGEST (SPHEROIDAL_COEFFICIENTS + 3)
+#define LONGEST (SPHEROIDAL_COEFFICIENTS + 4)
 #define BLOCK (GUARD + LONGEST + GUARD)
 #define SHOWN 10
 
@@ -183,7 +183,7 @@ static void check_row(size_t number, int fill) {
     for (at = 0; at < 4; at++) {
         lengths[at] = needed - 1;
         row_with(number, lengths, 1, fill);
-        lengths[at] = needed + at;
+        lengths[at] = needed + 1 + at;
     }
     row_with(number, lengths, 0, fill);
     for (at = 0; at < 4; at++) {

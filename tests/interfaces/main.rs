@@ -9,7 +9,6 @@ mod known;
 #[allow(dead_code)]
 #[path = "../differential/random.rs"]
 mod random;
-#[allow(dead_code)]
 #[path = "../../rust/spheroidal.rs"]
 mod spheroidal;
 #[path = "../differential/tally.rs"]
@@ -218,7 +217,7 @@ impl Tallies {
         let needed = usize::from(mode.n.saturating_sub(mode.m).min(199)) + 1;
         let mut lengths = vec![
             [needed; 4],
-            [needed + 3, needed, needed + 1, needed + 2],
+            [needed + 4, needed + 1, needed + 2, needed + 3],
             [0; 4],
         ];
         for short in 0..4 {
