@@ -1,0 +1,44 @@
+/*
+ * Prints an oblate row, and the angular function of its last mode at a few x. After ./build:
+ *
+ *   cc examples/row.c -Itarget/spheroidal/include -Ltarget/spheroidal/lib -lspheroidal_c -o
+ * target/row target/row
+ */
+#include <stdio.h>
+
+#include "spheroidal.h"
+
+int main(void) {
+    const uint16_t m = 0, n = 4;
+    const double c = 2.5;
+    double values[SPHEROIDAL_ROW_PLACES], lowers[SPHEROIDAL_ROW_PLACES];
+    double uppers[SPHEROIDAL_ROW_PLACES];
+    uint16_t steps[SPHEROIDAL_ROW_PLACES];
+
+    uint8_t answer = spheroidal_oblate_row(
+        m, n, c, SPHEROIDAL_LARGEST_ALLOWANCE, values, SPHEROIDAL_ROW_PLACES, steps,
+        SPHEROIDAL_ROW_PLACES, lowers, SPHEROIDAL_ROW_PLACES, uppers, SPHEROIDAL_ROW_PLACES);
+    if (answer != SPHEROIDAL_OK) {
+        fprintf(stderr, "the row is refused %d\n", answer);
+        return 1;
+    }
+    printf("Oblate modes %d to %d with m = %d, c = %g\n", m, n, m, c);
+    printf("mode         characteristic value  steps\n");
+    for (int j = 0; j <= n - m; j++) {
+        printf("%4d  %27.17g  %5d\n", m + j, values[j], steps[j]);
+    }
+
+    printf("\nAngular function of mode %d\n", n);
+    printf("   x                        value                   derivative\n");
+    for (int i = -2; i <= 2; i++) {
+        const double x = 0.5 * i;
+        double value, derivative;
+        answer = spheroidal_oblate_angular(m, n, c, values[n - m], x, &value, &derivative);
+        if (answer != SPHEROIDAL_OK) {
+            fprintf(stderr, "the pair is refused %d\n", answer);
+            return 1;
+        }
+        printf("%4.1f  %27.17g  %27.17g\n", x, value, derivative);
+    }
+    return 0;
+}

@@ -1,0 +1,269 @@
+#!/usr/bin/env python3
+"""Asks the record program `spheroidal` in plain words and prints tables.
+
+    spheroidal_client.py row oblate m=0 n=4 c=2.5
+    spheroidal_client.py dlmf prolate m=1 n=6 c=10
+    spheroidal_client.py angular oblate m=0 n=4 c=2.5 x=-1:1:9
+    spheroidal_client.py radial oblate m=0 n=2 c=1
+
+m is the order, n the degree, c the size parameter. x is one number or start:stop:count; radial
+functions are asked on the disc, x=0, which may be left out. cv is the characteristic value: where it
+is left out, it is taken from the mode's row. allowance is the most steps for each value of a row,
+65535 if left out. A number is decimal, or 0x and the 16 digits of a double's bits.
+
+Status 1: something is refused. Status 2: the words are not understood, or the program is missing.
+"""
+import argparse
+import os
+import re
+import struct
+import subprocess
+import sys
+from pathlib import Path
+
+PROGRAM = Path(__file__).resolve().parent.parent / "target" / "bin" / "spheroidal"
+OPERATIONS = {
+    ("row", "prolate"): 1,
+    ("row", "oblate"): 2,
+    ("angular", "prolate"): 3,
+    ("angular", "oblate"): 4,
+    ("radial", "oblate"): 5,
+    ("dlmf", "prolate"): 6,
+    ("dlmf", "oblate"): 7,
+}
+# The keys that each request needs, and those that may be left out.
+NEEDED = {"row": "m n c", "dlmf": "m n c", "angular": "m n c x", "radial": "m n c"}
+OPTIONAL = {"row": "allowance", "dlmf": "allowance", "angular": "cv allowance", "radial": "cv x allowance"}
+# Why an operation is refused; where it matters, a sentence for each operation.
+REFUSALS = {
+    4: "m is above 199, n is below m, or n - m is above 199",
+    5: "c is not a finite number from zero on",
+    6: {
+        "row": "(n - m)/2 + c is 291 or more",
+        "dlmf": "(n - m)/2 + c is 291 or more",
+        "angular": "(n - m)/2 + c is 175 or more",
+        "radial": "(n - m)/2 + c is 175 or more, or its whole part and m together are above 175",
+    },
+    7: "cv is not a finite number",
+    8: {"angular": "x is not a number from -1 to 1", "radial": "x is not zero"},
+    10: "a value used up its allowance of steps",
+}
+# How many words follow the record's number on a line.
+WORDS = {"V": 5, "D": 2, "A": 4, "F": 6, "R": 1}
+MOST_POINTS = 10_000
+
+
+class Misunderstood(Exception):
+    """The words cannot be made into records, or the program cannot be asked."""
+
+
+class Refused(Exception):
+    """The program refused: the number, and what was asked."""
+
+    def __str__(self):
+        number, what = self.args
+        reason = REFUSALS.get(number, "the record program's reason is unknown here")
+        return f"refused {number}: {reason[what] if isinstance(reason, dict) else reason}"
+
+
+def whole(word):
+    if not re.fullmatch("[0-9]{1,5}", word) or int(word) > 65535:
+        raise ValueError("a whole number from 0 to 65535")
+    return int(word)
+
+
+def number(word):
+    if re.fullmatch("0[xX][0-9a-fA-F]{16}", word):
+        return double(word[2:])
+    try:
+        if "_" not in word:
+            return float(word)
+    except ValueError:
+        pass
+    raise ValueError("a number")
+
+
+def points(word):
+    """One x, or those of start:stop:count, both ends exact."""
+    parts = word.split(":")
+    if len(parts) == 1:
+        return [number(word)]
+    try:
+        start, stop, last = number(parts[0]), number(parts[1]), whole(parts[2]) - 1
+        if len(parts) != 3 or not 1 <= last < MOST_POINTS:
+            raise ValueError
+    except (ValueError, IndexError):
+        raise ValueError(f"a number, or start:stop:count with a count from 2 to {MOST_POINTS}") from None
+    return [start + (stop - start) * at / last for at in range(last)] + [stop]
+
+
+READERS = {"m": whole, "n": whole, "allowance": whole, "c": number, "cv": number, "x": points}
+
+
+def fields_of(what, words):
+    """The words key=value as a dictionary."""
+    needed, optional = NEEDED[what].split(), OPTIONAL[what].split()
+    fields = {}
+    for word in words:
+        key, equals, value = word.partition("=")
+        if not equals or key not in needed + optional:
+            takes = " ".join(f"{key}=" for key in needed + optional)
+            raise Misunderstood(f"'{word}' is not understood: {what} takes {takes}")
+        if key in fields:
+            raise Misunderstood(f"{key} is given twice")
+        try:
+            fields[key] = READERS[key](value)
+        except ValueError as error:
+            raise Misunderstood(f"'{word}': {key} must be {error}") from None
+    missing = " ".join(f"{key}=" for key in needed if key not in fields)
+    if missing:
+        raise Misunderstood(f"still needed for {what}: {missing}")
+    return fields
+
+
+def double(digits):
+    return struct.unpack(">d", bytes.fromhex(digits))[0]
+
+
+def record(operation, fields, cv=0.0, x=0.0):
+    m, n, allowance = fields["m"], fields["n"], fields.get("allowance", 65535)
+    return b"SW" + struct.pack("<BHHHddd", operation, m, n, allowance, fields["c"], cv, x)
+
+
+def ask(program, records):
+    """For each record its lines, split into words: the letter first, the record's number left out."""
+    try:
+        done = subprocess.run([program], input=b"".join(records), stdout=subprocess.PIPE, check=True)
+    except (OSError, subprocess.CalledProcessError) as error:
+        raise Misunderstood(f"{error}\nThe record program is made by: rt check spheroidal") from None
+    answers = [[] for _ in records]
+    try:
+        for line in done.stdout.decode("ascii").splitlines():
+            letter, at, *rest = line.split()
+            if len(rest) != WORDS[letter]:
+                raise ValueError
+            answers[int(at)].append([letter, *rest])
+    except (ValueError, LookupError):
+        raise Misunderstood(f"{program} does not answer as the record program does") from None
+    if not all(answers):
+        raise Misunderstood(f"{program} did not answer every record")
+    return answers
+
+
+def ask_row(program, what, kind, fields):
+    """The lines of a row in either form."""
+    [lines] = ask(program, [record(OPERATIONS[what, kind], fields)])
+    if lines[0][0] == "R":
+        raise Refused(int(lines[0][1]), what)
+    return lines
+
+
+def print_table(heads, rows):
+    widths = [max(map(len, column)) for column in zip(heads, *rows)]
+    for row in [heads, *rows]:
+        print("  ".join(word.rjust(width) for word, width in zip(row, widths)))
+
+
+def plotter():
+    """The plotting library, asked for before anything is computed."""
+    try:
+        import matplotlib
+
+        matplotlib.use("Agg")
+        import matplotlib.pyplot
+    except ImportError:
+        raise Misunderstood("--plot needs matplotlib, which is not installed; the table does without") from None
+    return matplotlib.pyplot
+
+
+def plot(pyplot, path, title, xs, values):
+    figure, axes = pyplot.subplots()
+    axes.plot(xs, values)
+    axes.set(title=title, xlabel="x", ylabel="value")
+    axes.grid(True)
+    try:
+        figure.savefig(path)
+    except (OSError, ValueError) as error:
+        raise Misunderstood(f"the plot is not written: {error}") from None
+    print(f"plot written to {path}")
+
+
+def run(options):
+    what, kind = options.what, options.kind
+    if (what, kind) not in OPERATIONS:
+        raise Misunderstood(f"there are no {kind} {what} functions here, only oblate ones")
+    fields = fields_of(what, options.words)
+    if options.plot and (what != "angular" or len(fields["x"]) < 2):
+        raise Misunderstood("--plot is for angular functions with x=start:stop:count")
+    pyplot = plotter() if options.plot else None
+    program = options.program or os.environ.get("SPHEROIDAL") or str(PROGRAM)
+
+    def show(digits):
+        return digits if options.bits else repr(double(digits))
+
+    mode = f"m = {fields['m']}, c = {fields['c']!r}"
+    if what in ("row", "dlmf"):
+        lines = ask_row(program, what, kind, fields)
+        form = ", in DLMF's form" if what == "dlmf" else ""
+        print(f"{kind.capitalize()} modes {fields['m']} to {fields['n']} with {mode}{form}")
+        if what == "dlmf":
+            print_table(["mode", "value"], [[at, show(value)] for _, at, value in lines])
+        else:
+            rows = [[at, show(value), steps, show(low), show(up)] for _, at, steps, value, low, up in lines]
+            print_table(["mode", "value", "steps", "lower", "upper"], rows)
+        return
+
+    cv = fields.get("cv")
+    if cv is None:
+        cv = double(ask_row(program, "row", kind, fields)[-1][3])
+    xs = fields.get("x", [0.0])
+    answers = ask(program, [record(OPERATIONS[what, kind], fields, cv, x) for x in xs])
+    functions = "function" if what == "angular" else "functions"
+    title = f"{kind.capitalize()} {what} {functions} of mode {fields['n']} with {mode}"
+    heads = ["x", "value", "derivative"]
+    if what == "radial":
+        heads = ["x", "first kind", "derivative", "second kind", "derivative"]
+    rows, refused = [], []
+    for x, [[letter, *words]] in zip(xs, answers):
+        if letter == "R":
+            refused.append(int(words[0]))
+            words = [f"refused {words[0]}"] * (len(heads) - 1)
+        else:
+            words = [show(digits) for digits in words[2:]]
+        rows.append([show(struct.pack(">d", x).hex()), *words])
+    if len(refused) < len(rows):
+        print(f"{title}, cv = {show(struct.pack('>d', cv).hex())}")
+        print_table(heads, rows)
+    if refused:
+        raise Refused(refused[0], what)
+    if pyplot:
+        plot(pyplot, options.plot, title, xs, [double(lines[0][3]) for lines in answers])
+
+
+def main():
+    parser = argparse.ArgumentParser(description=__doc__, formatter_class=argparse.RawDescriptionHelpFormatter)
+    parser.add_argument("what", choices=list(NEEDED))
+    parser.add_argument("kind", choices=["prolate", "oblate"])
+    parser.add_argument("words", nargs="*", metavar="key=value")
+    parser.add_argument("--bits", action="store_true", help="print doubles as the 16 digits of their bits")
+    parser.add_argument("--plot", metavar="FILE", help="plot an angular function (needs matplotlib)")
+    parser.add_argument("--program", help="the record program; by default SPHEROIDAL or target/bin/spheroidal")
+    try:
+        try:
+            run(parser.parse_intermixed_args())
+        finally:
+            sys.stdout.flush()
+    except Misunderstood as error:
+        print(f"{parser.prog}: {error}", file=sys.stderr)
+        return 2
+    except Refused as error:
+        print(f"{parser.prog}: {error}", file=sys.stderr)
+        return 1
+    except BrokenPipeError:
+        # the reader has gone, as with | head; nothing is left to be printed
+        os.dup2(os.open(os.devnull, os.O_WRONLY), sys.stdout.fileno())
+    return 0
+
+
+if __name__ == "__main__":
+    sys.exit(main())

@@ -1,0 +1,140 @@
+/*
+ * Spheroidal modes of a flat disc, proved: characteristic values, expansion coefficients, angular
+ * functions, and both oblate radial functions on the disc. For C99 and C++11 or later, on x86-64
+ * Linux. `./build` makes the library, libspheroidal_c.a, which needs nothing but memcpy and memset:
+ * no -lm.
+ *
+ * A mode is m, n and c: the order m, the degree n, and the size parameter c.
+ *
+ * Every function answers SPHEROIDAL_OK, or the number of the refusal. Conditions are tested in the
+ * order of their numbers, and the first that applies is the answer. A refused call leaves every lent
+ * place as it was. An accepted one writes all the places that it needs and none past them: longer
+ * buffers are fine, and what they held before has no part in the answer.
+ *
+ * No argument value is forbidden; each is answered or refused. What C cannot check, the caller keeps:
+ *
+ * - A pointer is not null, not even with length 0, and is aligned for its type. It points to at least
+ *   as many places as the length after it says, or to one place where no length follows.
+ * - The places lent in one call do not overlap each other.
+ * - No other thread uses these places during the call.
+ * - The floating-point environment is C's default: rounding to nearest, subnormal numbers kept. A
+ *   program that gcc links with -ffast-math has them flushed to zero, and gets other bits.
+ *
+ * The functions keep no state, allocate nothing, touch no errno and may run in any number of threads
+ * at once. Measured, they use up to 37 KB of stack in rows, 12 KB in radial functions and 6 KB in the
+ * others.
+ */
+#ifndef SPHEROIDAL_H
+#define SPHEROIDAL_H
+
+#include <stddef.h>
+#include <stdint.h>
+
+/*
+ * What a function answers. 1 to 3 are refusals of the record program and never come from here. Let
+ * H be (n - m)/2 + c, in doubles, and N be 25 plus H cut to a whole number.
+ */
+#define SPHEROIDAL_OK 0
+/* m > 199, n < m or n - m > 199. */
+#define SPHEROIDAL_REFUSED_MODE_NUMBERS 4
+/* c is NaN, infinite or below zero; -0.0 passes. */
+#define SPHEROIDAL_REFUSED_SIZE_PARAMETER 5
+/* H >= 291 in rows, H >= 175 in all else; in radial functions also N + m > 200. */
+#define SPHEROIDAL_REFUSED_TOO_LARGE 6
+/* cv is NaN or infinite. */
+#define SPHEROIDAL_REFUSED_CHARACTERISTIC_VALUE 7
+/* Angular functions: x is NaN, below -1 or above 1. Radial ones: x is not zero of either sign. */
+#define SPHEROIDAL_REFUSED_ARGUMENT 8
+/* A lent buffer has fewer than n - m + 1 places (rows) or than 200 (coefficients). */
+#define SPHEROIDAL_REFUSED_BUFFER 9
+/* A value used up its allowance of steps. */
+#define SPHEROIDAL_REFUSED_ALLOWANCE 10
+
+/* The limits. */
+#define SPHEROIDAL_LARGEST_ORDER 199       /* of m */
+#define SPHEROIDAL_LARGEST_OFFSET 199      /* of n - m */
+#define SPHEROIDAL_ROW_LIMIT 291.0         /* H stays below it in rows */
+#define SPHEROIDAL_LIMIT 175.0             /* H stays below it in all else */
+#define SPHEROIDAL_RADIAL_PLACES 200       /* N + m is at most this in radial functions */
+#define SPHEROIDAL_ROW_PLACES 200          /* the most that a row needs in a buffer */
+#define SPHEROIDAL_COEFFICIENTS 200        /* what coefficients need in a buffer, always */
+#define SPHEROIDAL_LARGEST_ALLOWANCE 65535 /* the most steps that can be allowed */
+
+#ifdef __cplusplus
+extern "C" {
+#endif
+
+/*
+ * The characteristic values of the modes m, m + 1, .., n, in this order, by bisection. Place j of
+ * each buffer belongs to mode m + j: its value, the number of steps, and the bracket's lower and
+ * upper end at the last step. Where c is below 1e-10, value and bracket are (m + j)(m + j + 1), with
+ * 0 steps.
+ *
+ * The allowance is the most steps that each value may use; one that needs more refuses the whole row
+ * (10). A larger allowance never changes an accepted row, so SPHEROIDAL_LARGEST_ALLOWANCE is the
+ * usual choice, and a smaller one bounds the time. Of some 200,000 rows tried, values next to zero
+ * among them, none needed more than 132 steps; that none can is not proved. Where n - m is even, a
+ * value past n is bisected too, so that the largest step number need not suffice as an allowance.
+ *
+ * Writes n - m + 1 places of each of the four buffers. Refusals: 4, 5, 6, 9, 10.
+ */
+uint8_t spheroidal_prolate_row(uint16_t m, uint16_t n, double c, uint16_t allowance,
+                               double *values, size_t values_length,
+                               uint16_t *steps, size_t steps_length,
+                               double *lowers, size_t lowers_length,
+                               double *uppers, size_t uppers_length);
+uint8_t spheroidal_oblate_row(uint16_t m, uint16_t n, double c, uint16_t allowance,
+                              double *values, size_t values_length,
+                              uint16_t *steps, size_t steps_length,
+                              double *lowers, size_t lowers_length,
+                              double *uppers, size_t uppers_length);
+
+/*
+ * The row's values in DLMF's form: each less c * c.
+ *
+ * Writes n - m + 1 places. Refusals: 4, 5, 6, 9, 10, as for the row with the same allowance.
+ */
+uint8_t spheroidal_prolate_dlmf_row(uint16_t m, uint16_t n, double c, uint16_t allowance,
+                                    double *values, size_t values_length);
+uint8_t spheroidal_oblate_dlmf_row(uint16_t m, uint16_t n, double c, uint16_t allowance,
+                                   double *values, size_t values_length);
+
+/*
+ * The expansion coefficients of mode n, with cv its characteristic value: the last value of the row
+ * from m to n, not in DLMF's form. Any finite cv is taken; whether it is the mode's is not tested.
+ *
+ * Writes 200 places; those that the mode does not use become zero. Refusals: 4, 5, 6, 7, 9.
+ */
+uint8_t spheroidal_prolate_coefficients(uint16_t m, uint16_t n, double c, double cv,
+                                        double *values, size_t values_length);
+uint8_t spheroidal_oblate_coefficients(uint16_t m, uint16_t n, double c, double cv,
+                                       double *values, size_t values_length);
+
+/*
+ * The angular function of mode n and its derivative at x, from -1 to 1, with cv as above. At x of -1
+ * and 1 the derivative for m = 1, which is infinite, is answered as 1e100 or -1e100.
+ *
+ * Writes *value and *derivative. Refusals: 4, 5, 6, 7, 8.
+ */
+uint8_t spheroidal_prolate_angular(uint16_t m, uint16_t n, double c, double cv, double x,
+                                   double *value, double *derivative);
+uint8_t spheroidal_oblate_angular(uint16_t m, uint16_t n, double c, double cv, double x,
+                                  double *value, double *derivative);
+
+/*
+ * Both oblate radial functions of mode n with their derivatives on the disc, where x is 0.0 or -0.0,
+ * with cv as above: value1 and derivative1 are of the first kind, value2 and derivative2 of the
+ * second. The second kind is 1e300 twice where the first expansion coefficient is at most 1e-280 in
+ * size. With large n - m, m or c the ported formulas lose their digits (docs/ACCURACY.md).
+ *
+ * Writes all four places. Refusals: 4, 5, 6, 7, 8.
+ */
+uint8_t spheroidal_oblate_radial(uint16_t m, uint16_t n, double c, double cv, double x,
+                                 double *value1, double *derivative1,
+                                 double *value2, double *derivative2);
+
+#ifdef __cplusplus
+}
+#endif
+
+#endif

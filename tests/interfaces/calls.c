@@ -1,0 +1,350 @@
+/*
+ * Calls every function of include/spheroidal.h, accepted and refused, and checks the answer's number,
+ * the bits of each result and every place that is not to be written. One source for C99 and C++11.
+ * The last line reads 'N passed, M failed'; status 1 where something failed.
+ */
+#include <stdio.h>
+#include <string.h>
+
+#include "spheroidal.h"
+
+#define PROLATE 0
+#define OBLATE 1
+
+struct row_call {
+    int kind;
+    uint16_t m, n, allowance;
+    uint64_t c;
+    uint8_t answer;
+    size_t first_place; /* in row_places */
+};
+
+struct row_place {
+    uint16_t steps;
+    uint64_t value, lower, upper, dlmf;
+};
+
+struct coefficient_call {
+    int kind;
+    uint16_t m, n;
+    uint64_t c, cv;
+    uint8_t answer;
+    size_t first_place, used; /* in coefficient_places; those past the used ones are zero */
+};
+
+struct angular_call {
+    int kind;
+    uint16_t m, n;
+    uint64_t c, cv, x;
+    uint8_t answer;
+    uint64_t value, derivative;
+};
+
+struct radial_call {
+    uint16_t m, n;
+    uint64_t c, cv, x;
+    uint8_t answer;
+    uint64_t value1, derivative1, value2, derivative2;
+};
+
+#include "expected.h"
+
+#define COUNT(array) (sizeof(array) / sizeof(array)[0])
+
+/* A lent buffer stands inside a block, with places before and behind that nothing may touch. */
+#define GUARD 8
+#define LONGEST (SPHEROIDAL_COEFFICIENTS + 4)
+#define BLOCK (GUARD + LONGEST + GUARD)
+#define SHOWN 10
+
+static long passed, failed;
+
+/* What the blocks hold beforehand: zeros, a number, a NaN. */
+static const int fills[] = {0x00, 0xa5, 0xff};
+
+typedef uint8_t (*row_function)(uint16_t, uint16_t, double, uint16_t, double *, size_t, uint16_t *,
+                                size_t, double *, size_t, double *, size_t);
+typedef uint8_t (*dlmf_function)(uint16_t, uint16_t, double, uint16_t, double *, size_t);
+typedef uint8_t (*coefficient_function)(uint16_t, uint16_t, double, double, double *, size_t);
+typedef uint8_t (*angular_function)(uint16_t, uint16_t, double, double, double, double *, double *);
+
+static const row_function row_functions[] = {spheroidal_prolate_row, spheroidal_oblate_row};
+static const dlmf_function dlmf_functions[] = {spheroidal_prolate_dlmf_row,
+                                               spheroidal_oblate_dlmf_row};
+static const coefficient_function coefficient_functions[] = {spheroidal_prolate_coefficients,
+                                                             spheroidal_oblate_coefficients};
+static const angular_function angular_functions[] = {spheroidal_prolate_angular,
+                                                     spheroidal_oblate_angular};
+
+static double double_of(uint64_t bits) {
+    double x;
+    memcpy(&x, &bits, sizeof x);
+    return x;
+}
+
+static void check(int right, const char *function, size_t call, const char *what) {
+    if (right) {
+        passed++;
+        return;
+    }
+    failed++;
+    if (failed <= SHOWN) {
+        printf("%s, call %lu: %s\n", function, (unsigned long)call, what);
+    }
+}
+
+static int is_nan(uint64_t bits) { return (bits & 0x7fffffffffffffff) > 0x7ff0000000000000; }
+
+/*
+ * Whether a block holds so many expected doubles from the lent place on, any NaN where one is
+ * expected, and its old bytes in every other place.
+ */
+static int doubles_right(const double *block, int fill, const uint64_t *expected, size_t count) {
+    size_t at;
+    for (at = 0; at < BLOCK; at++) {
+        uint64_t held, old;
+        memcpy(&held, &block[at], sizeof held);
+        memset(&old, fill, sizeof old);
+        if (at < GUARD || at >= GUARD + count) {
+            if (held != old) {
+                return 0;
+            }
+        } else if (held != expected[at - GUARD] && !(is_nan(held) && is_nan(expected[at - GUARD]))) {
+            return 0;
+        }
+    }
+    return 1;
+}
+
+static int steps_right(const uint16_t *block, int fill, const uint16_t *expected, size_t count) {
+    size_t at;
+    uint16_t old;
+    memset(&old, fill, sizeof old);
+    for (at = 0; at < BLOCK; at++) {
+        int written = at >= GUARD && at < GUARD + count;
+        if (block[at] != (written ? expected[at - GUARD] : old)) {
+            return 0;
+        }
+    }
+    return 1;
+}
+
+/* The answer where a buffer is too short: 9, unless an earlier refusal applies. */
+static uint8_t answer_if_short(uint8_t answer) {
+    int earlier = answer != SPHEROIDAL_OK && answer < SPHEROIDAL_REFUSED_BUFFER;
+    return earlier ? answer : (uint8_t)SPHEROIDAL_REFUSED_BUFFER;
+}
+
+/* A row's places, or as many as fit where its mode is refused. */
+static size_t places_of(uint16_t m, uint16_t n) {
+    size_t offset = n < m ? 0 : (size_t)(n - m);
+    return (offset < SPHEROIDAL_LARGEST_OFFSET ? offset : SPHEROIDAL_LARGEST_OFFSET) + 1;
+}
+
+static void row_with(size_t number, const size_t lengths[4], int is_short, int fill) {
+    static double values[BLOCK], lowers[BLOCK], uppers[BLOCK];
+    static uint16_t steps[BLOCK];
+    uint64_t expected_values[LONGEST], expected_lowers[LONGEST], expected_uppers[LONGEST];
+    uint16_t expected_steps[LONGEST];
+    const struct row_call *call = &row_calls[number];
+    uint8_t expected = is_short ? answer_if_short(call->answer) : call->answer;
+    size_t count = expected == SPHEROIDAL_OK ? places_of(call->m, call->n) : 0;
+    const char *name = call->kind == PROLATE ? "prolate row" : "oblate row";
+    uint8_t answer;
+    size_t at;
+    for (at = 0; at < count; at++) {
+        const struct row_place *place = &row_places[call->first_place + at];
+        expected_values[at] = place->value;
+        expected_steps[at] = place->steps;
+        expected_lowers[at] = place->lower;
+        expected_uppers[at] = place->upper;
+    }
+    memset(values, fill, sizeof values);
+    memset(steps, fill, sizeof steps);
+    memset(lowers, fill, sizeof lowers);
+    memset(uppers, fill, sizeof uppers);
+    answer = row_functions[call->kind](call->m, call->n, double_of(call->c), call->allowance,
+                                       values + GUARD, lengths[0], steps + GUARD, lengths[1],
+                                       lowers + GUARD, lengths[2], uppers + GUARD, lengths[3]);
+    check(answer == expected, name, number, "answer");
+    check(doubles_right(values, fill, expected_values, count), name, number, "values");
+    check(steps_right(steps, fill, expected_steps, count), name, number, "steps");
+    check(doubles_right(lowers, fill, expected_lowers, count), name, number, "lowers");
+    check(doubles_right(uppers, fill, expected_uppers, count), name, number, "uppers");
+}
+
+/* Buffers just long enough, longer, of different lengths, each in turn too short by one, and empty.
+ */
+static void check_row(size_t number, int fill) {
+    size_t needed = places_of(row_calls[number].m, row_calls[number].n);
+    size_t lengths[4] = {needed, needed, needed, needed};
+    size_t at;
+    row_with(number, lengths, 0, fill);
+    for (at = 0; at < 4; at++) {
+        lengths[at] = needed - 1;
+        row_with(number, lengths, 1, fill);
+        lengths[at] = needed + 1 + at;
+    }
+    row_with(number, lengths, 0, fill);
+    for (at = 0; at < 4; at++) {
+        lengths[at] = 0;
+    }
+    row_with(number, lengths, 1, fill);
+}
+
+static void dlmf_with(size_t number, size_t length, int is_short, int fill) {
+    static double values[BLOCK];
+    uint64_t expected_values[LONGEST];
+    const struct row_call *call = &row_calls[number];
+    uint8_t expected = is_short ? answer_if_short(call->answer) : call->answer;
+    size_t count = expected == SPHEROIDAL_OK ? places_of(call->m, call->n) : 0;
+    const char *name = call->kind == PROLATE ? "prolate DLMF row" : "oblate DLMF row";
+    uint8_t answer;
+    size_t at;
+    for (at = 0; at < count; at++) {
+        expected_values[at] = row_places[call->first_place + at].dlmf;
+    }
+    memset(values, fill, sizeof values);
+    answer = dlmf_functions[call->kind](call->m, call->n, double_of(call->c), call->allowance,
+                                        values + GUARD, length);
+    check(answer == expected, name, number, "answer");
+    check(doubles_right(values, fill, expected_values, count), name, number, "values");
+}
+
+static void check_dlmf_row(size_t number, int fill) {
+    size_t needed = places_of(row_calls[number].m, row_calls[number].n);
+    dlmf_with(number, needed, 0, fill);
+    dlmf_with(number, needed + 3, 0, fill);
+    dlmf_with(number, needed - 1, 1, fill);
+    dlmf_with(number, 0, 1, fill);
+}
+
+static void coefficients_with(size_t number, size_t length, int fill) {
+    static double values[BLOCK];
+    uint64_t expected_values[LONGEST];
+    const struct coefficient_call *call = &coefficient_calls[number];
+    int is_short = length < SPHEROIDAL_COEFFICIENTS;
+    uint8_t expected = is_short ? answer_if_short(call->answer) : call->answer;
+    size_t count = expected == SPHEROIDAL_OK ? SPHEROIDAL_COEFFICIENTS : 0;
+    const char *name = call->kind == PROLATE ? "prolate coefficients" : "oblate coefficients";
+    uint8_t answer;
+    size_t at;
+    for (at = 0; at < count; at++) {
+        expected_values[at] = at < call->used ? coefficient_places[call->first_place + at] : 0;
+    }
+    memset(values, fill, sizeof values);
+    answer = coefficient_functions[call->kind](call->m, call->n, double_of(call->c),
+                                               double_of(call->cv), values + GUARD, length);
+    check(answer == expected, name, number, "answer");
+    check(doubles_right(values, fill, expected_values, count), name, number, "values");
+}
+
+static void check_coefficients(size_t number, int fill) {
+    coefficients_with(number, SPHEROIDAL_COEFFICIENTS, fill);
+    coefficients_with(number, SPHEROIDAL_COEFFICIENTS + 3, fill);
+    coefficients_with(number, SPHEROIDAL_COEFFICIENTS - 1, fill);
+    coefficients_with(number, 0, fill);
+}
+
+static void check_angular(size_t number, int fill) {
+    static double value[BLOCK], derivative[BLOCK];
+    const struct angular_call *call = &angular_calls[number];
+    size_t count = call->answer == SPHEROIDAL_OK ? 1 : 0;
+    const char *name = call->kind == PROLATE ? "prolate angular" : "oblate angular";
+    uint8_t answer;
+    memset(value, fill, sizeof value);
+    memset(derivative, fill, sizeof derivative);
+    answer = angular_functions[call->kind](call->m, call->n, double_of(call->c), double_of(call->cv),
+                                           double_of(call->x), value + GUARD, derivative + GUARD);
+    check(answer == call->answer, name, number, "answer");
+    check(doubles_right(value, fill, &call->value, count), name, number, "value");
+    check(doubles_right(derivative, fill, &call->derivative, count), name, number, "derivative");
+}
+
+static void check_radial(size_t number, int fill) {
+    static double blocks[4][BLOCK];
+    const struct radial_call *call = &radial_calls[number];
+    size_t count = call->answer == SPHEROIDAL_OK ? 1 : 0;
+    const char *name = "oblate radial";
+    uint8_t answer;
+    memset(blocks, fill, sizeof blocks);
+    answer = spheroidal_oblate_radial(call->m, call->n, double_of(call->c), double_of(call->cv),
+                                      double_of(call->x), blocks[0] + GUARD, blocks[1] + GUARD,
+                                      blocks[2] + GUARD, blocks[3] + GUARD);
+    check(answer == call->answer, name, number, "answer");
+    check(doubles_right(blocks[0], fill, &call->value1, count), name, number, "value1");
+    check(doubles_right(blocks[1], fill, &call->derivative1, count), name, number, "derivative1");
+    check(doubles_right(blocks[2], fill, &call->value2, count), name, number, "value2");
+    check(doubles_right(blocks[3], fill, &call->derivative2, count), name, number, "derivative2");
+}
+
+/* One row with buffers of one length, for the limits. */
+static uint8_t plain_row(uint16_t m, uint16_t n, double c, size_t length) {
+    static double values[LONGEST], lowers[LONGEST], uppers[LONGEST];
+    static uint16_t steps[LONGEST];
+    return spheroidal_oblate_row(m, n, c, SPHEROIDAL_LARGEST_ALLOWANCE, values, length, steps, length,
+                                 lowers, length, uppers, length);
+}
+
+/* The header's limits are the library's: each is the last that passes or the first that does not. */
+static void check_limits(void) {
+    static double values[LONGEST];
+    const uint16_t m = SPHEROIDAL_LARGEST_ORDER;
+    const uint16_t n = SPHEROIDAL_LARGEST_ORDER + SPHEROIDAL_LARGEST_OFFSET;
+    const uint16_t radial = SPHEROIDAL_RADIAL_PLACES - 25;
+    const size_t places = SPHEROIDAL_ROW_PLACES;
+    double a, b, c, d;
+    const char *name = "limits";
+    check(plain_row(m, n, 0.0, places) == SPHEROIDAL_OK, name, 0, "largest m and n - m");
+    check(plain_row(m, n, 0.0, places - 1) == SPHEROIDAL_REFUSED_BUFFER, name, 1, "row places");
+    check(plain_row((uint16_t)(m + 1), n, 0.0, places) == SPHEROIDAL_REFUSED_MODE_NUMBERS, name, 2,
+          "m above the largest");
+    check(plain_row(m, (uint16_t)(n + 1), 0.0, places) == SPHEROIDAL_REFUSED_MODE_NUMBERS, name, 3,
+          "n - m above the largest");
+    check(plain_row(0, 1, -1.0, places) == SPHEROIDAL_REFUSED_SIZE_PARAMETER, name, 4,
+          "c below zero");
+    check(plain_row(0, 0, SPHEROIDAL_ROW_LIMIT, places) == SPHEROIDAL_REFUSED_TOO_LARGE, name, 5,
+          "row limit");
+    check(plain_row(0, 0, SPHEROIDAL_ROW_LIMIT - 0.5, places) == SPHEROIDAL_OK, name, 6,
+          "below the row limit");
+    check(spheroidal_oblate_dlmf_row(0, 0, 1.0, 0, values, LONGEST) == SPHEROIDAL_REFUSED_ALLOWANCE,
+          name, 7, "no steps allowed");
+    check(spheroidal_oblate_coefficients(0, 0, SPHEROIDAL_LIMIT, 0.0, values, LONGEST) ==
+              SPHEROIDAL_REFUSED_TOO_LARGE,
+          name, 8, "limit");
+    check(spheroidal_oblate_coefficients(0, 0, SPHEROIDAL_LIMIT - 0.5, 0.0, values, LONGEST) ==
+              SPHEROIDAL_OK,
+          name, 9, "below the limit");
+    check(spheroidal_oblate_coefficients(0, 0, 1.0, double_of(0x7ff0000000000000), values, LONGEST) ==
+              SPHEROIDAL_REFUSED_CHARACTERISTIC_VALUE,
+          name, 10, "infinite cv");
+    check(spheroidal_oblate_radial(radial, radial, 0.0, 0.0, 0.0, &a, &b, &c, &d) == SPHEROIDAL_OK,
+          name, 11, "radial places");
+    check(spheroidal_oblate_radial((uint16_t)(radial + 1), (uint16_t)(radial + 1), 0.0, 0.0, 0.0, &a,
+                                   &b, &c, &d) == SPHEROIDAL_REFUSED_TOO_LARGE,
+          name, 12, "more radial places");
+    check(spheroidal_oblate_angular(0, 0, 1.0, 0.0, 1.5, &a, &b) == SPHEROIDAL_REFUSED_ARGUMENT, name,
+          13, "x above 1");
+}
+
+int main(void) {
+    size_t at, fill;
+    for (fill = 0; fill < COUNT(fills); fill++) {
+        for (at = 0; at < COUNT(row_calls); at++) {
+            check_row(at, fills[fill]);
+            check_dlmf_row(at, fills[fill]);
+        }
+        for (at = 0; at < COUNT(coefficient_calls); at++) {
+            check_coefficients(at, fills[fill]);
+        }
+        for (at = 0; at < COUNT(angular_calls); at++) {
+            check_angular(at, fills[fill]);
+        }
+        for (at = 0; at < COUNT(radial_calls); at++) {
+            check_radial(at, fills[fill]);
+        }
+    }
+    check_limits();
+    printf("%ld passed, %ld failed\n", passed, failed);
+    return failed == 0 ? 0 : 1;
+}
