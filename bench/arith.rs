@@ -6,7 +6,7 @@ mod measure;
 
 use std::hint::black_box;
 
-use measure::{Measured, seconds, time};
+use measure::{Measured, seconds, short, time};
 
 unsafe extern "C" {
     fn arith_sqrt(x: f64) -> f64;
@@ -96,10 +96,10 @@ fn report(name: &str, proved: fn(f64) -> f64, rust: fn(f64) -> f64, xs: &[f64]) 
             || seconds(|| way(rust, xs)),
         );
         println!(
-            "| {name:<8} | {label:<11} | {:>7} | {:>7} | {:.2} | {:<24} |",
+            "| {name:<8} | {label:<11} | {:>7} | {:>7} | {:>5} | {:<24} |",
             time(measured.ours / CALLS as f64),
             time(measured.rust / CALLS as f64),
-            measured.ratio(),
+            short(measured.ratio()),
             measured.factors(),
         );
     }

@@ -68,19 +68,20 @@ impl Measured {
     }
 }
 
-/// Three digits or a little more.
+/// Two digits at least, four where they stand before the point.
 pub fn short(number: f64) -> String {
     match number {
         100.0.. => format!("{number:.0}"),
         10.0.. => format!("{number:.1}"),
-        _ => format!("{number:.2}"),
+        0.1.. => format!("{number:.2}"),
+        _ => format!("{number:.3}"),
     }
 }
 
 /// A time in the unit that suits it.
 pub fn time(seconds: f64) -> String {
     match seconds {
-        1e-2.. => format!("{} ms", short(seconds * 1e3)),
+        1e-3.. => format!("{} ms", short(seconds * 1e3)),
         1e-6.. => format!("{} µs", short(seconds * 1e6)),
         _ => format!("{} ns", short(seconds * 1e9)),
     }

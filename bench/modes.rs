@@ -7,7 +7,7 @@ mod measure;
 
 use std::hint::black_box;
 
-use measure::{Measured, ROUNDS, seconds, time, verdict};
+use measure::{Measured, ROUNDS, seconds, short, time, verdict};
 use oracle::answer::{self, Build};
 use oracle::record::{Kind, Record, same};
 
@@ -146,13 +146,13 @@ impl Table {
         self.missed += usize::from(verdict == "MISSED");
         let each = calls as f64;
         println!(
-            "| {:<14} | {:<8} | {:<25} | {:>8} | {:>8} | {:.2} | {:<24} | {:>6} | {:<6} |",
+            "| {:<14} | {:<8} | {:<25} | {:>8} | {:>8} | {:>5} | {:<24} | {:>6} | {:<6} |",
             call,
             format!("{:?}", mode.size).to_lowercase(),
             mode.name(),
             time(measured.ours / each),
             time(measured.rust / each),
-            measured.ratio(),
+            short(measured.ratio()),
             measured.factors(),
             target.map_or("none".to_string(), |target| format!("{target:.0}")),
             verdict,

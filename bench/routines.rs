@@ -10,7 +10,7 @@ use std::hint::black_box;
 use library::{
     routines_aswfa, routines_cbk, routines_kmn, routines_qstar, routines_sckb, routines_sdmn,
 };
-use measure::{Measured, seconds, time};
+use measure::{Measured, seconds, short, time};
 use oracle::answer::{self, Build};
 use oracle::reading::half_offset_plus_c;
 use oracle::record::{Kind, Record};
@@ -24,10 +24,10 @@ fn compare(name: &str, times: usize, mut ours: impl FnMut(), mut theirs: impl Fn
         || seconds(|| (0..times).for_each(|_| theirs())),
     );
     println!(
-        "| | {name:<12} | {:>8} | {:>8} | {:.2} | {:<24} |",
+        "| | {name:<12} | {:>8} | {:>8} | {:>5} | {:<24} |",
         time(measured.ours / times as f64),
         time(measured.rust / times as f64),
-        measured.ratio(),
+        short(measured.ratio()),
         measured.factors(),
     );
 }
@@ -154,6 +154,7 @@ fn main() {
     report(Kind::Prolate, 0, 0, 1.0, 20_000);
     report(Kind::Oblate, 2, 9, 5.0, 20_000);
     report(Kind::Oblate, 40, 80, 50.0, 1_000);
+    report(Kind::Oblate, 100, 150, 50.0, 500);
     report(Kind::Prolate, 0, 199, 75.0, 1_000);
     report(Kind::Oblate, 150, 349, 75.0, 500);
     report_disc(0, 0, 1.0, 20_000);
