@@ -1,7 +1,12 @@
-// Times the proved arithmetic beside Rust's own, in one process: each round runs every routine
-// once over the same arguments, and the best round of each counts.
+//! Times the proved arithmetic beside Rust's own, in one process: a round runs a routine once over
+//! the same arguments.
+
+#[allow(dead_code)]
+mod measure;
+
 use std::hint::black_box;
-use std::time::Instant;
+
+use measure::{Measured, seconds, short, time};
 
 unsafe extern "C" {
     fn arith_sqrt(x: f64) -> f64;
@@ -63,39 +68,39 @@ fn random(state: &mut u64) -> u64 {
 }
 
 /// Independent calls: the time of one is what a caller pays in a loop over an array.
-fn independent(f: fn(f64) -> f64, xs: &[f64]) -> f64 {
-    let start = Instant::now();
+fn independent(f: fn(f64) -> f64, xs: &[f64]) {
     for &x in xs {
         black_box(f(black_box(x)));
     }
-    start.elapsed().as_secs_f64() * 1e9 / xs.len() as f64
 }
 
 /// A chain: each argument waits for the result before it.
-fn chained(f: fn(f64) -> f64, xs: &[f64]) -> f64 {
+fn chained(f: fn(f64) -> f64, xs: &[f64]) {
     // zero, but not for the compiler: the argument stays as it is and has to wait
     let none: u64 = black_box(0);
-    let start = Instant::now();
     let mut last: f64 = 0.0;
     for &x in xs {
         last = f(f64::from_bits(x.to_bits() | (last.to_bits() & none)));
     }
     black_box(last);
-    start.elapsed().as_secs_f64() * 1e9 / xs.len() as f64
 }
 
+type Way = fn(fn(f64) -> f64, &[f64]);
+
 fn report(name: &str, proved: fn(f64) -> f64, rust: fn(f64) -> f64, xs: &[f64]) {
-    let way: [(&str, fn(fn(f64) -> f64, &[f64]) -> f64); 2] =
-        [("independent", independent), ("chained", chained)];
-    for (label, time) in way {
-        let (mut ours, mut theirs) = (f64::INFINITY, f64::INFINITY);
-        for _ in 0..ROUNDS {
-            ours = ours.min(time(proved, xs));
-            theirs = theirs.min(time(rust, xs));
-        }
+    let ways: [(&str, Way); 2] = [("independent", independent), ("chained", chained)];
+    for (label, way) in ways {
+        let measured = Measured::rounds(
+            ROUNDS,
+            || seconds(|| way(proved, xs)),
+            || seconds(|| way(rust, xs)),
+        );
         println!(
-            "{name:<10} {label:<12} proved {ours:7.2} ns   Rust {theirs:7.2} ns   ratio {:6.2}",
-            ours / theirs
+            "| {name:<8} | {label:<11} | {:>7} | {:>7} | {:>5} | {:<24} |",
+            time(measured.ours / CALLS as f64),
+            time(measured.rust / CALLS as f64),
+            short(measured.ratio()),
+            measured.factors(),
         );
     }
 }
@@ -109,6 +114,9 @@ fn main() {
     let near: Vec<f64> = (0..CALLS)
         .map(|_| (random(&mut seed) >> 11) as f64 / (1u64 << 53) as f64 * 300.0)
         .collect();
+    println!("The arithmetic, {ROUNDS} rounds in turn.\n");
+    println!("| routine | way | ours | Rust | ratio | times as fast |");
+    println!("|---|---|---|---|---|---|");
     report("sqrt", proved_sqrt, rust_sqrt, &wide);
     report("abs", proved_abs, rust_abs, &near);
     report("truncate", proved_truncate, rust_truncate, &near);

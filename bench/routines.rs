@@ -1,46 +1,42 @@
-// Times the ported routines beside the Rust original's, in one process: both sides in turn, the best
-// round of each counts.
+//! Times the ported routines beside the Rust's, one by one, both sides in turn in one process.
+
 #[path = "../tests/ported/library.rs"]
 mod library;
+#[allow(dead_code)]
+mod measure;
 
 use std::hint::black_box;
-use std::time::Instant;
 
 use library::{
     routines_aswfa, routines_cbk, routines_kmn, routines_qstar, routines_sckb, routines_sdmn,
 };
+use measure::{Measured, seconds, short, time};
 use oracle::answer::{self, Build};
 use oracle::reading::half_offset_plus_c;
 use oracle::record::{Kind, Record};
 
 const ROUNDS: usize = 15;
 
-fn seconds(times: usize, mut call: impl FnMut()) -> f64 {
-    let start = Instant::now();
-    for _ in 0..times {
-        call();
-    }
-    start.elapsed().as_secs_f64()
-}
-
 fn compare(name: &str, times: usize, mut ours: impl FnMut(), mut theirs: impl FnMut()) {
-    let (mut proved, mut rust) = (f64::INFINITY, f64::INFINITY);
-    for _ in 0..ROUNDS {
-        proved = proved.min(seconds(times, &mut ours));
-        rust = rust.min(seconds(times, &mut theirs));
-    }
-    let micro = 1e6 / times as f64;
+    let measured = Measured::rounds(
+        ROUNDS,
+        || seconds(|| (0..times).for_each(|_| ours())),
+        || seconds(|| (0..times).for_each(|_| theirs())),
+    );
     println!(
-        "  {name}: proved {:.2} µs   Rust {:.2} µs   ratio {:.2}",
-        proved * micro,
-        rust * micro,
-        proved / rust
+        "| | {name:<12} | {:>8} | {:>8} | {:>5} | {:<24} |",
+        time(measured.ours / times as f64),
+        time(measured.rust / times as f64),
+        short(measured.ratio()),
+        measured.factors(),
     );
 }
 
 /// A record with the characteristic value of its own mode.
 fn record_of(kind: Kind, m: u16, n: u16, c: f64) -> Record {
-    let cv = *answer::segv(kind, m, n, c).last().expect("a row has a value");
+    let cv = *answer::segv(kind, m, n, c)
+        .last()
+        .expect("a row has a value");
     Record {
         operation: 3,
         m,
@@ -59,7 +55,7 @@ fn report(kind: Kind, m: u16, n: u16, c: f64, times: usize) {
     let kd = f64::from(kind.sign());
     let (m, n) = (u32::from(m), u32::from(n));
     let (mut df, mut ck) = ([0.0; 200], [0.0; 200]);
-    println!("{kind:?} m {m} n {n} c {c}, N {nm}");
+    println!("| {kind:?} m {m} n {n} c {c}, N {nm} | | | | | |");
     compare(
         "sdmn",
         times,
@@ -84,10 +80,24 @@ fn report(kind: Kind, m: u16, n: u16, c: f64, times: usize) {
         times,
         || {
             let (value, derivative) = (black_box(&mut value), black_box(&mut derivative));
-            routines_aswfa(m, n, black_box(c), black_box(cv), kd, black_box(x), value, derivative)
+            routines_aswfa(
+                m,
+                n,
+                black_box(c),
+                black_box(cv),
+                kd,
+                black_box(x),
+                value,
+                derivative,
+            )
         },
         || {
-            black_box(answer::aswfa(Build::Unaltered, kind, black_box(&record), black_box(x)));
+            black_box(answer::aswfa(
+                Build::Unaltered,
+                kind,
+                black_box(&record),
+                black_box(x),
+            ));
         },
     );
 }
@@ -102,7 +112,7 @@ fn report_disc(m: u16, n: u16, c: f64, times: usize) {
     let [mut qs, mut qt] = answer::qstar(&record, ck1, &ck);
     let mut bk = [0.0; 200];
     let (m, n) = (u32::from(m), u32::from(n));
-    println!("Oblate m {m} n {n} c {c}, N {nm}");
+    println!("| Oblate m {m} n {n} c {c}, N {nm} | | | | | |");
     compare(
         "kmn",
         times,
@@ -138,9 +148,13 @@ fn report_disc(m: u16, n: u16, c: f64, times: usize) {
 }
 
 fn main() {
+    println!("The ported routines, {ROUNDS} rounds in turn.\n");
+    println!("| mode | routine | ours | Rust | ratio | times as fast |");
+    println!("|---|---|---|---|---|---|");
     report(Kind::Prolate, 0, 0, 1.0, 20_000);
     report(Kind::Oblate, 2, 9, 5.0, 20_000);
     report(Kind::Oblate, 40, 80, 50.0, 1_000);
+    report(Kind::Oblate, 100, 150, 50.0, 500);
     report(Kind::Prolate, 0, 199, 75.0, 1_000);
     report(Kind::Oblate, 150, 349, 75.0, 500);
     report_disc(0, 0, 1.0, 20_000);

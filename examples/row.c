@@ -1,8 +1,8 @@
 /*
  * Prints an oblate row, and the angular function of its last mode at a few x. After ./build:
  *
- *   cc examples/row.c -Itarget/spheroidal/include -Ltarget/spheroidal/lib -lspheroidal_c -o
- * target/row target/row
+ *   s=target/spheroidal
+ *   cc examples/row.c -I$s/include -L$s/lib -lspheroidal_c -o target/row && target/row
  */
 #include <stdio.h>
 

@@ -12,7 +12,7 @@ const SPOILED_PERCENT: u64 = 12;
 
 /// How large a mode is: this bounds the cost of a record.
 #[derive(Clone, Copy)]
-enum Size {
+pub enum Size {
     Small,
     Medium,
     HighOrder,
@@ -20,7 +20,9 @@ enum Size {
     Edge,
 }
 
-const SIZES: [(u64, Size); 5] = [
+pub type Sizes = [(u64, Size); 5];
+
+const SIZES: Sizes = [
     (60, Size::Small),
     (23, Size::Medium),
     (10, Size::HighOrder),
@@ -101,12 +103,18 @@ const SPOILINGS: [(u64, Spoiling); 7] = [
 
 pub struct Generator {
     random: Random,
+    sizes: Sizes,
 }
 
 impl Generator {
     pub fn new(seed: u64) -> Generator {
+        Generator::with_sizes(seed, SIZES)
+    }
+
+    pub fn with_sizes(seed: u64, sizes: Sizes) -> Generator {
         Generator {
             random: Random::new(seed),
+            sizes,
         }
     }
 
@@ -129,7 +137,7 @@ impl Generator {
     /// A record that no refusal from 3 to 8 turns back.
     fn sound_record(&mut self) -> Record {
         let operation = self.random.weighted(&OPERATIONS);
-        let size = self.random.weighted(&SIZES);
+        let size = self.random.weighted(&self.sizes);
         self.sound_record_of(operation, size)
     }
 

@@ -51,7 +51,7 @@ pub fn aswfa(build: Build, kind: Kind, record: &Record, x: f64) -> [f64; 2] {
 }
 
 /// Both oblate radial kinds by `rswfo` with kf = 3.
-fn rswfo(record: &Record) -> [f64; 4] {
+pub fn rswfo(record: &Record) -> [f64; 4] {
     let (m, n) = (i32::from(record.m), i32::from(record.n));
     let [mut r1f, mut r1d, mut r2f, mut r2d] = [0.0; 4];
     let Record { c, x, cv, .. } = *record;
