@@ -11,9 +11,9 @@ use Rattle.arith.specs.Double.{_⊕_, at, #0, #1}
 use Rattle.arith.specs.Choice.{abs}
 use Rattle.arith.specs.Powers.{power, halfPower}
 use Rattle.expansion.specs.Sdmn.{sdmn}
-use Rattle.expansion.specs.Sckb.{sckb, sckbFirst}
-use Rattle.expansion.proofs.First.{Agree, first-agrees}
+use Rattle.expansion.specs.Sckb.{sckb}
 use Rattle.angular.specs.declared.aswfa.Pair.{Pair}
+use Rattle.angular.specs.Stages.{Agree}
 use Rattle.angular.specs.Aswfa.{a0Of, converged, summed, valueTerm, derivativeTerm, su1Of, su2Of, derivativeAtOne, derivativeInside, beforeSigns, signAt, aswfa, nm2Of}
 
 -- ---- x1 to the power m/2: the source's case of m = 0 and x1 = 0 is what the power rule gives
@@ -69,11 +69,14 @@ module _ (xs ys : List Float) (nm2 : ℕ) (few : 1 ≤ nm2) (same : Agree (nm2 +
   unfolding beforeSigns derivativeAtOne derivativeInside
   before-signs-same m ip x = rw (value-same _, derivative-same _, same 0 (omega arith), same 1 (omega arith))
 
+-- ---- at 1 the derivative reads two places
+pub at-one-same : (xs ys : List Float) (nm2 m ip : ℕ) → 1 ≤ nm2 → Agree (nm2 + 1) xs ys → derivativeAtOne ys m ip ≡ derivativeAtOne xs m ip
+unfolding derivativeAtOne
+at-one-same xs ys nm2 m ip few same = rw (same 0 (omega arith), same 1 (omega arith))
+
 -- ---- the pair from its parts
-pub aswfa-is : (m n : ℕ) (c cv kd x0 : Float) (nm2 count : ℕ) (df ck : List Float) (x : Float) (p : Pair) (v d : Float) → nm2 ≡ nm2Of (n - m) c → 1 ≤ nm2 → nm2 < count → df ≡ sdmn m n c cv kd
-    → ck ≡ sckbFirst df m n c count → x ≡ abs x0 → p ≡ beforeSigns ck m ((n - m) % 2) nm2 x → v ≡ signAt x0 (eqb ((n - m) % 2) 1) (p .value) → d ≡ signAt x0 (eqb ((n - m) % 2) 0) (p .derivative)
+pub aswfa-is : (m n : ℕ) (c cv kd x0 : Float) (nm2 : ℕ) (df : List Float) (x : Float) (p : Pair) (v d : Float) → nm2 ≡ nm2Of (n - m) c → df ≡ sdmn m n c cv kd → x ≡ abs x0
+    → p ≡ beforeSigns (sckb df m n c) m ((n - m) % 2) nm2 x → v ≡ signAt x0 (eqb ((n - m) % 2) 1) (p .value) → d ≡ signAt x0 (eqb ((n - m) % 2) 0) (p .derivative)
     → record { value = v; derivative = d } ≡ aswfa m n c cv kd x0
 unfolding aswfa
-aswfa-is m n c cv kd x0 nm2 count df ck x p v d hn few enough hf hc hx hp hv hd =
-    let same : Agree (nm2 + 1) (sckbFirst df m n c count) (sckb df m n c) = λ i l. first-agrees df m n c count i (omega arith) in
-    rw (hv, hd, hp, hc, before-signs-same (sckbFirst df m n c count) (sckb df m n c) nm2 few same m ((n - m) % 2) x, hf, hx, hn)
+aswfa-is m n c cv kd x0 nm2 df x p v d hn hf hx hp hv hd = rw (hv, hd, hp, hf, hx, hn)

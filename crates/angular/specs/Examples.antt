@@ -12,12 +12,12 @@ use Rattle.expansion.specs.Terms.{termsOf, clamped}
 use Rattle.expansion.specs.Products.{rising, risingBy}
 use Rattle.expansion.specs.Sums as Sums
 use Rattle.expansion.specs.Sdmn.{sdmn}
-use Rattle.expansion.specs.Sckb.{regulator, terms, firstFactor, sumOf, factorial, filled, powers, sckb}
+use Rattle.expansion.specs.Sckb.{regulator, terms, firstFactor, sumOf, factorial, filled, sckb}
 use Rattle.angular.specs.Aswfa.{nm2Of, a0Of, converged, summed, su1Of, su2Of, derivativeAtOne, derivativeInside, beforeSigns, signAt, aswfa}
 
 -- everything that computing an example unfolds; tables of the crates above use it too
 unfoldable pub computed : Bool
-unfolding aswfa signAt beforeSigns derivativeInside derivativeAtOne su1Of su2Of summed converged a0Of nm2Of sckb powers filled factorial sumOf firstFactor terms regulator sdmn Sums.converged Sums.blank rising risingBy termsOf clamped power sqrt abs add sub mul div neg lt le eq ofInt ofBits toBits toSigned
+unfolding aswfa signAt beforeSigns derivativeInside derivativeAtOne su1Of su2Of summed converged a0Of nm2Of sckb filled factorial sumOf firstFactor terms regulator sdmn Sums.converged Sums.blank rising risingBy termsOf clamped power sqrt abs add sub mul div neg lt le eq ofInt ofBits toBits toSigned
 computed = true
 
 -- A prolate mode with c = 0: m, n, the bits of cv and of x, and the bits of its pair.

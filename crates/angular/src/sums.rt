@@ -2,6 +2,7 @@
 ghost use mathlib.Core.Path.{_≡_};
 ghost use Prim.Native.Nat.{_<_, _≤_};
 ghost use Rattle.angular.specs.Aswfa as Aswfa;
+ghost use Rattle.angular.specs.Stages.{Final};
 
 // The stopping test of a sum after its term r for k: k is at least 10 and r below 1e-14 of the sum.
 fn converged(k: u32, r: f64, su: f64) -> bool
@@ -13,10 +14,17 @@ fn converged(k: u32, r: f64, su: f64) -> bool
     arith::abs(r / su) < 1e-14
 }
 
+// A sum, and whether it has ended: else it may go on past its last term.
+pub struct Sum {
+    pub su: f64,
+    pub ended: bool,
+}
+
 // The sum of the value: ck[k] times the k-th power of x1.
-pub(crate) fn su1_of(ck: &[f64; 200], x1: f64, nm2: u32) -> f64
+pub(crate) fn su1_of(ck: &[f64; 200], x1: f64, nm2: u32) -> Sum
     requires { ⌜ nm2 < 200 ⌝ }
-    ensures { λ r. ⌜ r ≡ Aswfa.su1Of (now (ck .entry)) x1 nm2 ⌝ }
+    ensures { λ r. ⌜ r .su ≡ Aswfa.su1Of (now (ck .entry)) x1 nm2 ⌝ }
+    ensures { λ r. ⌜ Final (r .ended) (r .su) (λ ys n. Aswfa.su1Of ys x1 n) (now (ck .entry)) nm2 ⌝ }
 {
     let mut su1 = ck[0];
     let mut p = 1.0 * x1;
@@ -25,18 +33,25 @@ pub(crate) fn su1_of(ck: &[f64; 200], x1: f64, nm2: u32) -> f64
         let r = ck[k as usize] * p;
         su1 = su1 + r;
         if converged(k, r, su1) {
-            return su1;
+            return Sum {
+                su: su1,
+                ended: true,
+            };
         }
         p = p * x1;
         k = k + 1;
     }
-    su1
+    Sum {
+        su: su1,
+        ended: false,
+    }
 }
 
 // The sum of the derivative: k times ck[k] times the power of x1 below the k-th.
-pub(crate) fn su2_of(ck: &[f64; 200], x1: f64, nm2: u32) -> f64
+pub(crate) fn su2_of(ck: &[f64; 200], x1: f64, nm2: u32) -> Sum
     requires { ⌜ (1 ≤ nm2) × (nm2 < 200) ⌝ }
-    ensures { λ r. ⌜ r ≡ Aswfa.su2Of (now (ck .entry)) x1 nm2 ⌝ }
+    ensures { λ r. ⌜ r .su ≡ Aswfa.su2Of (now (ck .entry)) x1 nm2 ⌝ }
+    ensures { λ r. ⌜ Final (r .ended) (r .su) (λ ys n. Aswfa.su2Of ys x1 n) (now (ck .entry)) nm2 ⌝ }
 {
     let mut su2 = ck[1];
     let mut p = 1.0 * x1;
@@ -45,10 +60,16 @@ pub(crate) fn su2_of(ck: &[f64; 200], x1: f64, nm2: u32) -> f64
         let r = (k as f64) * ck[k as usize] * p;
         su2 = su2 + r;
         if converged(k, r, su2) {
-            return su2;
+            return Sum {
+                su: su2,
+                ended: true,
+            };
         }
         p = p * x1;
         k = k + 1;
     }
-    su2
+    Sum {
+        su: su2,
+        ended: false,
+    }
 }

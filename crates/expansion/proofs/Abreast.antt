@@ -1,7 +1,7 @@
 -- Four power coefficients at once: their first factors, a term of one of them, and how its sum ends. Assumes nothing.
 use Prim.Native.Nat.{ℕ, zero, suc, _+_, _-_, _*_, _<_, _≤_}
 use mathlib.Core.Path.{_≡_, refl, sym, _∙_}
-use mathlib.Core.Bool.{Bool, true, false, cond}
+use mathlib.Core.Bool.{Bool, true, false}
 use mathlib.Core.List.{List}
 use native.Mathlib.Omega.{arith}
 use native.Mathlib.Numerals.{add-one}
@@ -9,12 +9,10 @@ use native.Mathlib.Nat.{add-zero}
 use lib.Ieee.{Float}
 use Rattle.arith.specs.Double.{_⊕_, _⊗_, dbl, at, #0·5}
 use Rattle.expansion.specs.declared.four.Term.{Term}
-use Rattle.expansion.specs.declared.four.Run.{Run}
-use Rattle.expansion.specs.declared.sckb.Partial.{Partial}
 use Rattle.expansion.specs.Products.{rising, risingBy}
 use Rattle.expansion.specs.Sums.{converged}
 use Rattle.expansion.specs.Sckb.{terms, firstFactor, sumOf}
-use Rattle.expansion.specs.Four.{nextTerm, termPastFirst, restOf, sumFrom, starting, advanced, endedWith, endOf}
+use Rattle.expansion.specs.Four.{nextTerm, termPastFirst, restOf, sumFrom}
 use Rattle.expansion.proofs.Laws.{terms-stop, terms-on}
 
 -- a product goes on where it stopped
@@ -39,42 +37,6 @@ rest-on df m ip nm k i j t u h hj e v =
     let a : suc nm - i ≡ suc (nm - i) = omega arith in
     let b : suc nm - (i + 1) ≡ nm - i = omega arith in
     rw (hj, e, b, a, add-one i) (terms-on df m ip k (nm - i) i (t .r) _ (t .sum) (t .sum) refl (rw e at v))
-
--- a term that does
-pub rest-stop : (df : List Float) (m ip nm k i : ℕ) (t u : Term) → i ≤ nm → u ≡ nextTerm df m ip k i t → converged (t .sum) (u .sum) ≡ true
-    → record { sum = u .sum; sw = t .sum } ≡ restOf df m ip nm k i t
-rest-stop df m ip nm k i t u h e v =
-    let a : suc nm - i ≡ suc (nm - i) = omega arith in rw (e, a) (terms-stop df m ip k (nm - i) i (t .r) _ (t .sum) (t .sum) refl (rw e at v))
-
--- a run ends as it did before its next term
-pub end-on : (df : List Float) (m ip nm k i j : ℕ) (run : Run) → i ≤ nm → j ≡ i + 1 → endOf df m ip nm k j (advanced df m ip k i run) ≡ endOf df m ip nm k i run
-unfolding endOf advanced endedWith
-end-on df m ip nm k i j run h hj = go (run .going) (converged (run .term .sum) (u .sum)) refl
-  where
-    u : Term
-    u = nextTerm df m ip k i (run .term)
-
-    go : (g b : Bool) → converged (run .term .sum) (u .sum) ≡ b
-        → _≡_ {A = Partial} (elim (cond b false g) [ true ↦ restOf df m ip nm k j u | false ↦ cond b (cond g (record { sum = u .sum; sw = run .term .sum }) (run .ended)) (run .ended) ])
-        (elim g [ true ↦ restOf df m ip nm k i (run .term) | false ↦ run .ended ])
-    go true true e = rest-stop df m ip nm k i (run .term) u h refl e
-    go true false e = rest-on df m ip nm k i j (run .term) u h hj refl e
-    go false true e = refl
-    go false false e = refl
-
--- and a run that goes on, as its terms do
-module _ (df : List Float) (m ip nm k i : ℕ) (run : Run) where
-  pub end-going : run .going ≡ true → endOf df m ip nm k i run ≡ restOf df m ip nm k i (run .term)
-  unfolding endOf
-  end-going h = rw (h, endOf)
-
-  pub end-start : (t : Term) → run ≡ starting t → endOf df m ip nm k i run ≡ restOf df m ip nm k i t
-  unfolding endOf
-  end-start t h = rw h
-
-  pub end-ended : run .going ≡ false → endOf df m ip nm k i run ≡ run .ended
-  unfolding endOf
-  end-ended h = rw (h, endOf)
 
 -- the term past the first ends the sum, or it goes on
 module _ (df : List Float) (m ip nm k : ℕ) (t : Term) (sw : Float) where

@@ -1,5 +1,6 @@
 -- The coefficients of the powers of 1 − x² (`sckb`), in the order and with the names of the source. Definitions only.
-use Prim.Native.Nat.{ℕ, zero, suc, _+_, _-_, _*_, _%_, min}
+use Prim.Native.Nat.{ℕ, zero, suc, _+_, _-_, _*_, _%_, _≤_}
+use mathlib.Core.Path.{_≡_}
 use mathlib.Core.Bool.{true, false, cond}
 use mathlib.Core.List.{List}
 use lib.Dec.{ltb}
@@ -8,6 +9,7 @@ use lib.ListN.{set}
 use Rattle.arith.specs.Double.{_⊕_, _⊖_, _⊗_, _⊘_, dbl, at, #0, #0·5, #1, #2, #1e-200}
 use Rattle.arith.specs.Powers.{halfTo}
 use Rattle.expansion.specs.declared.sckb.Partial.{Partial}
+use Rattle.expansion.specs.declared.sckb.Carried.{Carried}
 use Rattle.expansion.specs.Terms.{powerTermsOf}
 use Rattle.expansion.specs.Products.{rising, risingBy}
 use Rattle.expansion.specs.Sums.{converged, blank}
@@ -58,14 +60,12 @@ filled df m ip nm (suc left) k fac sw ck =
     let p = sumOf df m ip nm reg k sw in
     filled df m ip nm left (suc k) (neg fac) (p .sw) (set ck k (valueOf reg m k (neg fac) (p .sum)))
 
--- the first `count` of nm coefficients
-unfoldable pub powers : List Float → ℕ → ℕ → ℕ → ℕ → List Float
-powers df m ip nm count = filled df m ip nm count 0 (neg (halfTo m)) #0 blank
-
 -- all of them
 unfoldable pub sckb : List Float → ℕ → ℕ → Float → List Float
-sckb df m n c = powers df m ((n - m) % 2) (powerTermsOf (n - m) c) (powerTermsOf (n - m) c)
+sckb df m n c = let nm = powerTermsOf (n - m) c in filled df m ((n - m) % 2) nm nm 0 (neg (halfTo m)) #0 blank
 
--- the first `count` of them, or all where there are fewer; the other places stay zero
-unfoldable pub sckbFirst : List Float → ℕ → ℕ → Float → ℕ → List Float
-sckbFirst df m n c count = powers df m ((n - m) % 2) (powerTermsOf (n - m) c) (min count (powerTermsOf (n - m) c))
+-- ---- what the contracts speak of where they are formed in parts: those before the k-th are in place, and what is carried on to it will fill the rest
+abbrev pub Stands : List Float → ℕ → ℕ → Float → Carried → List Float → Type 0
+Stands df m n c at ck =
+    let nm = powerTermsOf (n - m) c in
+    (at .k ≤ nm) × (at .r1 ≡ factorial (regulator m nm) (m + at .k)) × (filled df m ((n - m) % 2) nm (nm - at .k) (at .k) (at .fac) (at .sw) ck ≡ sckb df m n c)

@@ -1,9 +1,11 @@
 // The sums of four power coefficients at once. A sum is a chain in which each division waits for the
 // one before; those of four coefficients do not wait for each other.
 ghost use mathlib.Core.Path.{_≡_};
+ghost use mathlib.Core.Bool.{false};
 ghost use Prim.Native.Nat.{_+_, _*_, _<_, _≤_, suc};
 ghost use Rattle.arith.specs.Double.{#0·5};
 ghost use Rattle.expansion.specs.Products.{rising, risingBy};
+ghost use Rattle.expansion.specs.Sums as Sums;
 ghost use Rattle.expansion.specs.Sckb as Sckb;
 ghost use Rattle.expansion.specs.Four as Four;
 use super::sckb::Partial;
@@ -125,131 +127,54 @@ fn term_past_first(df: &[f64; 200], m: u32, ip: u32, reg: f64, k: u32, r: f64) -
     )
 }
 
-// A coefficient's sum on its way: its last term, whether it goes on, and how it ended where it does
-// not. A sum that has ended gets further terms with the others, and nothing looks at them.
-pub struct Run {
-    pub term: Term,
-    pub going: bool,
-    pub ended: Partial,
-}
-
-// Of each of the coefficients k to k + 3 a sum.
-pub struct Runs {
-    pub a: Run,
-    pub b: Run,
-    pub c: Run,
-    pub d: Run,
-}
-
-// How a run has ended after its next term; `converged` says whether that ends it.
-fn ended_with(run: Run, next: Term, converged: bool) -> Partial
-    ensures { λ x. ⌜ x ≡ Four.endedWith run next converged ⌝ }
+// Whether one of the four sums has converged, t before and u after a term.
+fn one_converged(t: Terms, u: Terms) -> bool
+    ensures { λ r. ⌜ (r ≡ false → (Sums.converged (t .a .sum) (u .a .sum) ≡ false) × (Sums.converged (t .b .sum) (u .b .sum) ≡ false) × (Sums.converged (t .c .sum) (u .c .sum) ≡ false) × (Sums.converged (t .d .sum) (u .d .sum) ≡ false)) ⌝ }
 {
-    if converged {
-        if run.going {
-            return Partial {
-                sum: next.sum,
-                sw: run.term.sum,
-            };
-        }
-        return run.ended;
-    }
-    run.ended
-}
-
-// A run with term i of coefficient k.
-fn advanced(df: &[f64; 200], m: u32, ip: u32, k: u32, i: u32, run: Run) -> Run
-    requires { ⌜ (m < 1000) × (ip < 2) × (k ≤ i) × (i < 200) ⌝ }
-    ensures { λ x. ⌜ x ≡ Four.advanced (now (df .entry)) m ip k i run ⌝ }
-{
-    let next = next_term(df, m, ip, k, i, run.term);
-    let converged = super::sums::converged(run.term.sum, next.sum);
-    let ended = ended_with(run, next, converged);
-    let going = if converged { false } else { run.going };
-    Run {
-        term: next,
-        going,
-        ended,
-    }
-}
-
-fn starting(term: Term) -> Run
-    ensures { λ x. ⌜ x ≡ Four.starting term ⌝ }
-{
-    Run {
-        term,
-        going: true,
-        ended: Partial { sum: 0.0, sw: 0.0 },
-    }
-}
-
-fn all_starting(first: Terms) -> Runs
-    ensures { λ x. ⌜ (x .a ≡ Four.starting (first .a)) × (x .b ≡ Four.starting (first .b)) × (x .c ≡ Four.starting (first .c)) × (x .d ≡ Four.starting (first .d)) ⌝ }
-{
-    Runs {
-        a: starting(first.a),
-        b: starting(first.b),
-        c: starting(first.c),
-        d: starting(first.d),
-    }
-}
-
-// The runs with term i of coefficient k, term i + 1 of k + 1, and so on.
-fn all_advanced(df: &[f64; 200], m: u32, ip: u32, k: u32, i: u32, runs: Runs) -> Runs
-    requires { ⌜ (m < 1000) × (ip < 2) × (k ≤ i) × (i + 3 < 200) ⌝ }
-    ensures { λ x. ⌜ (x .a ≡ Four.advanced (now (df .entry)) m ip k i (runs .a)) × (x .b ≡ Four.advanced (now (df .entry)) m ip (k + 1) (i + 1) (runs .b))
-        × (x .c ≡ Four.advanced (now (df .entry)) m ip (k + 2) (i + 2) (runs .c)) × (x .d ≡ Four.advanced (now (df .entry)) m ip (k + 3) (i + 3) (runs .d)) ⌝ }
-{
-    Runs {
-        a: advanced(df, m, ip, k, i, runs.a),
-        b: advanced(df, m, ip, k + 1, i + 1, runs.b),
-        c: advanced(df, m, ip, k + 2, i + 2, runs.c),
-        d: advanced(df, m, ip, k + 3, i + 3, runs.d),
-    }
-}
-
-// Whether one of the four goes on.
-fn one_goes_on(runs: Runs) -> bool
-    ensures { λ r. ⌜ r ≡ Four.oneGoesOn runs ⌝ }
-{
-    if runs.a.going {
+    if super::sums::converged(t.a.sum, u.a.sum) {
         return true;
     }
-    if runs.b.going {
+    if super::sums::converged(t.b.sum, u.b.sum) {
         return true;
     }
-    if runs.c.going {
+    if super::sums::converged(t.c.sum, u.c.sum) {
         return true;
     }
-    runs.d.going
+    super::sums::converged(t.d.sum, u.d.sum)
 }
 
-// How far the four have come: all have ended, or the last is out of terms.
+// The terms that each of the four has, where the first of them has converged or run out of terms.
 struct Reached {
     // The next term of coefficient k; of k + 1 it is i + 1, and so on.
     i: u32,
-    runs: Runs,
+    terms: Terms,
 }
 
 // From the terms past the first on, a term of each at a time.
 fn together(df: &[f64; 200], m: u32, ip: u32, k: u32, nm: u32, first: Terms) -> Reached
     requires { ⌜ (m < 1000) × (ip < 2) × (k + 4 ≤ nm) × (nm < 200) ⌝ }
-    ensures { λ x. ⌜ Four.EndAlike (now (df .entry)) m ip nm k (x .i) (x .runs) first ⌝ }
+    ensures { λ x. ⌜ Four.EndAlike (now (df .entry)) m ip nm k (x .i) (x .terms) (k + 2) first ⌝ }
     ensures { λ x. ⌜ (k < x .i) × (x .i + 2 ≤ nm) ⌝ }
 {
-    let mut runs = all_starting(first);
+    let mut terms = first;
     let mut i = k + 2;
     while i + 3 <= nm {
-        if !one_goes_on(runs) {
-            return Reached { i, runs };
+        let next = Terms {
+            a: next_term(df, m, ip, k, i, terms.a),
+            b: next_term(df, m, ip, k + 1, i + 1, terms.b),
+            c: next_term(df, m, ip, k + 2, i + 2, terms.c),
+            d: next_term(df, m, ip, k + 3, i + 3, terms.d),
+        };
+        if one_converged(terms, next) {
+            return Reached { i, terms };
         }
-        runs = all_advanced(df, m, ip, k, i, runs);
+        terms = next;
         i = i + 1;
     }
-    Reached { i, runs }
+    Reached { i, terms }
 }
 
-// The sum of coefficient k, whose term past the first is `first` and whose run stands before term i.
+// The sum of coefficient k, whose term past the first is `first` and whose term before i is t.
 fn concluded(
     df: &[f64; 200],
     m: u32,
@@ -258,20 +183,16 @@ fn concluded(
     nm: u32,
     first: Term,
     i: u32,
-    run: Run,
+    t: Term,
     sw: f64,
 ) -> Partial
-    requires { ⌜ (m < 1000) × (ip < 2) × (k < i) × (i ≤ suc nm) × (nm < 200) × (Four.endOf (now df) m ip nm k i run ≡ Four.restOf (now df) m ip nm k (k + 2) first) ⌝ }
+    requires { ⌜ (m < 1000) × (ip < 2) × (k < i) × (i ≤ suc nm) × (nm < 200) × (Four.restOf (now df) m ip nm k i t ≡ Four.restOf (now df) m ip nm k (k + 2) first) ⌝ }
     ensures { λ x. ⌜ x ≡ Four.sumFrom (now (df .entry)) m ip nm k first sw ⌝ }
 {
     if super::sums::converged(sw, first.sum) {
         return Partial { sum: first.sum, sw };
     }
-    if run.going {
-        let t = run.term;
-        return super::sckb::sum_terms(df, m, ip, k, nm, i, t.r, t.sum, t.sum);
-    }
-    run.ended
+    super::sckb::sum_terms(df, m, ip, k, nm, i, t.r, t.sum, t.sum)
 }
 
 // The sums of the coefficients k to k + 3.
@@ -307,17 +228,17 @@ fn all_concluded(
     nm: u32,
     first: Terms,
     i: u32,
-    runs: Runs,
+    t: Terms,
     sw: f64,
 ) -> FourSums
-    requires { ⌜ (m < 1000) × (ip < 2) × (k < i) × (i + 2 ≤ nm) × (nm < 200) × Four.EndAlike (now df) m ip nm k i runs first ⌝ }
+    requires { ⌜ (m < 1000) × (ip < 2) × (k < i) × (i + 2 ≤ nm) × (nm < 200) × Four.EndAlike (now df) m ip nm k i t (k + 2) first ⌝ }
     ensures { λ x. ⌜ (x .a ≡ Four.sumFrom (now (df .entry)) m ip nm k (first .a) sw) × (x .b ≡ Four.sumFrom (now (df .entry)) m ip nm (k + 1) (first .b) (x .a .sw))
         × (x .c ≡ Four.sumFrom (now (df .entry)) m ip nm (k + 2) (first .c) (x .b .sw)) × (x .d ≡ Four.sumFrom (now (df .entry)) m ip nm (k + 3) (first .d) (x .c .sw)) ⌝ }
 {
-    let a = concluded(df, m, ip, k, nm, first.a, i, runs.a, sw);
-    let b = concluded(df, m, ip, k + 1, nm, first.b, i + 1, runs.b, a.sw);
-    let c = concluded(df, m, ip, k + 2, nm, first.c, i + 2, runs.c, b.sw);
-    let d = concluded(df, m, ip, k + 3, nm, first.d, i + 3, runs.d, c.sw);
+    let a = concluded(df, m, ip, k, nm, first.a, i, t.a, sw);
+    let b = concluded(df, m, ip, k + 1, nm, first.b, i + 1, t.b, a.sw);
+    let c = concluded(df, m, ip, k + 2, nm, first.c, i + 2, t.c, b.sw);
+    let d = concluded(df, m, ip, k + 3, nm, first.d, i + 3, t.d, c.sw);
     FourSums { a, b, c, d }
 }
 
@@ -337,5 +258,5 @@ pub(crate) fn four_sums(
 {
     let first = terms_past_first(df, m, ip, reg, k);
     let reached = together(df, m, ip, k, nm, first);
-    all_concluded(df, m, ip, k, nm, first, reached.i, reached.runs, sw)
+    all_concluded(df, m, ip, k, nm, first, reached.i, reached.terms, sw)
 }

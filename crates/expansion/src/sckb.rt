@@ -1,8 +1,10 @@
 // The source's `sckb`: the coefficients of the powers of 1 - x^2, from the expansion coefficients.
 ghost use mathlib.Core.Path.{_≡_};
-ghost use Prim.Native.Nat.{_+_, _-_, _<_, _≤_, suc};
+ghost use Prim.Native.Nat.{_+_, _-_, _<_, _≤_, suc, min};
 ghost use lib.Ieee.{neg};
 ghost use lib.ListN.{set};
+ghost use Rattle.arith.specs.Double.{#0};
+ghost use Rattle.arith.specs.Powers.{halfTo};
 ghost use Rattle.expansion.specs.Terms as Terms;
 ghost use Rattle.expansion.specs.Sckb as Sckb;
 use super::sums::Places;
@@ -125,7 +127,7 @@ impl Carried {
     }
 }
 
-// Coefficients in fours, as long as four are left.
+// Coefficients in fours, as long as four are left of `count`.
 fn fill_fours(
     df: &[f64; 200],
     m: u32,
@@ -136,9 +138,9 @@ fn fill_fours(
     start: Carried,
     ck: &mut [f64; 200],
 ) -> Carried
-    requires { ⌜ (m < 200) × (ip < 2) × (nm < 200) × (count ≤ nm) × (start .k ≤ count) × (reg ≡ Sckb.regulator m nm) × (start .r1 ≡ Sckb.factorial reg (m + start .k)) ⌝ }
-    ensures { λ x. ⌜ Sckb.filled (now (df .entry)) m ip nm (count - x .k) (x .k) (x .fac) (x .sw) (now (ck .exit)) ≡ Sckb.filled (now (df .entry)) m ip nm (count - start .k) (start .k) (start .fac) (start .sw) (now (ck .entry)) ⌝ }
-    ensures { λ x. ⌜ (x .k ≤ count) × (x .r1 ≡ Sckb.factorial reg (m + x .k)) ⌝ }
+    requires { ⌜ (m < 200) × (ip < 2) × (nm < 200) × (count ≤ nm) × (start .k ≤ nm) × (reg ≡ Sckb.regulator m nm) × (start .r1 ≡ Sckb.factorial reg (m + start .k)) ⌝ }
+    ensures { λ x. ⌜ Sckb.filled (now (df .entry)) m ip nm (nm - x .k) (x .k) (x .fac) (x .sw) (now (ck .exit)) ≡ Sckb.filled (now (df .entry)) m ip nm (nm - start .k) (start .k) (start .fac) (start .sw) (now (ck .entry)) ⌝ }
+    ensures { λ x. ⌜ (x .k ≤ nm) × (x .r1 ≡ Sckb.factorial reg (m + x .k)) ⌝ }
 {
     let mut at = start;
     while at.k + 4 <= count {
@@ -151,7 +153,7 @@ fn fill_fours(
     at
 }
 
-// The coefficients that are left.
+// Coefficients one by one, up to `count`.
 fn fill_rest(
     df: &[f64; 200],
     m: u32,
@@ -161,33 +163,64 @@ fn fill_rest(
     count: u32,
     start: Carried,
     ck: &mut [f64; 200],
-)
-    requires { ⌜ (m < 200) × (ip < 2) × (nm < 200) × (count ≤ nm) × (start .k ≤ count) × (reg ≡ Sckb.regulator m nm) × (start .r1 ≡ Sckb.factorial reg (m + start .k)) ⌝ }
-    ensures { λ _. ⌜ now (ck .exit) ≡ Sckb.filled (now (df .entry)) m ip nm (count - start .k) (start .k) (start .fac) (start .sw) (now (ck .entry)) ⌝ }
+) -> Carried
+    requires { ⌜ (m < 200) × (ip < 2) × (nm < 200) × (count ≤ nm) × (start .k ≤ nm) × (reg ≡ Sckb.regulator m nm) × (start .r1 ≡ Sckb.factorial reg (m + start .k)) ⌝ }
+    ensures { λ x. ⌜ Sckb.filled (now (df .entry)) m ip nm (nm - x .k) (x .k) (x .fac) (x .sw) (now (ck .exit)) ≡ Sckb.filled (now (df .entry)) m ip nm (nm - start .k) (start .k) (start .fac) (start .sw) (now (ck .entry)) ⌝ }
+    ensures { λ x. ⌜ (x .k ≤ nm) × (x .r1 ≡ Sckb.factorial reg (m + x .k)) ⌝ }
+    ensures { λ x. ⌜ count ≤ x .k ⌝ }
 {
     let mut at = start;
     while at.k < count {
         let p = sum_of(df, m, ip, nm, reg, at.k, at.sw);
         at = at.put(m, reg, p, ck);
     }
+    at
 }
 
-// The first `count` of nm coefficients.
-fn powers(df: &[f64; 200], m: u32, ip: u32, nm: u32, count: u32) -> Places
-    requires { ⌜ (m < 200) × (ip < 2) × (nm < 200) × (count ≤ nm) ⌝ }
-    ensures { λ x. ⌜ x ≡ Sckb.powers (now (df .entry)) m ip nm count ⌝ }
+// What is carried to the first coefficient.
+pub fn start(m: u32, n: u32, c: f64) -> Carried
+    requires { ⌜ Terms.Usable m n c ⌝ }
+    ensures { λ x. ⌜ (x .k ≡ 0) × (x .fac ≡ neg (halfTo m)) × (x .sw ≡ #0) × (x .r1 ≡ Sckb.factorial (Sckb.regulator m (Terms.powerTermsOf (n - m) c)) m) ⌝ }
 {
-    let reg = regulator(m, nm);
-    let mut ck = super::sums::blank();
-    let start = Carried {
+    let nm = super::terms::power_terms(n - m, c);
+    Carried {
         k: 0,
         fac: -arith::power(0.5, m),
-        r1: factorial(reg, m),
+        r1: factorial(regulator(m, nm), m),
         sw: 0.0,
-    };
-    let rest = fill_fours(df, m, ip, nm, reg, count, start, &mut ck);
-    fill_rest(df, m, ip, nm, reg, count, rest, &mut ck);
-    ck
+    }
+}
+
+fn lesser(a: u32, b: u32) -> u32
+    ensures { λ r. ⌜ r ≡ min a b ⌝ }
+{
+    if a < b {
+        return a;
+    }
+    b
+}
+
+// Goes on to the first `count` coefficients, or to all where there are fewer. They are formed in
+// order, so that a caller who needs few of them forms few.
+pub fn go_on(
+    df: &[f64; 200],
+    m: u32,
+    n: u32,
+    c: f64,
+    at: Carried,
+    count: u32,
+    ck: &mut [f64; 200],
+) -> Carried
+    requires { ⌜ Terms.Usable m n c × Sckb.Stands (now df) m n c at (now ck) ⌝ }
+    ensures { λ x. ⌜ Sckb.Stands (now (df .entry)) m n c x (now (ck .exit)) ⌝ }
+    ensures { λ x. ⌜ min count (Terms.powerTermsOf (n - m) c) ≤ x .k ⌝ }
+{
+    let nm = super::terms::power_terms(n - m, c);
+    let ip = (n - m) % 2;
+    let reg = regulator(m, nm);
+    let goal = lesser(count, nm);
+    let rest = fill_fours(df, m, ip, nm, reg, goal, at, ck);
+    fill_rest(df, m, ip, nm, reg, goal, rest, ck)
 }
 
 // The coefficients of the powers of 1 - x^2 for the mode of order m and degree n.
@@ -196,17 +229,7 @@ pub fn sckb(df: &[f64; 200], m: u32, n: u32, c: f64) -> Places
     ensures { λ x. ⌜ x ≡ Sckb.sckb (now (df .entry)) m n c ⌝ }
 {
     let nm = super::terms::power_terms(n - m, c);
-    powers(df, m, (n - m) % 2, nm, nm)
-}
-
-// The first `count` of these coefficients, for a caller that reads no others.
-pub fn sckb_first(df: &[f64; 200], m: u32, n: u32, c: f64, count: u32) -> Places
-    requires { ⌜ Terms.Usable m n c ⌝ }
-    ensures { λ x. ⌜ x ≡ Sckb.sckbFirst (now (df .entry)) m n c count ⌝ }
-{
-    let nm = super::terms::power_terms(n - m, c);
-    if count < nm {
-        return powers(df, m, (n - m) % 2, nm, count);
-    }
-    powers(df, m, (n - m) % 2, nm, nm)
+    let mut ck = super::sums::blank();
+    go_on(df, m, n, c, start(m, n, c), nm, &mut ck);
+    ck
 }

@@ -21,7 +21,7 @@ su2-of-requires c κs = search needs
 
 returns : tie.Need-returns
 unfolding derivativeInside
-returns c = rw (c .before .before .before .power .ensures, c .su2-of .ensures)
+returns c = (rw (c .before .before .before .before .power .ensures, c .before .su2-of .ensures .0), λ e ys same more. rw (c .before .su2-of .ensures .1 e ys same more, c .before .before .before .before .power .ensures))
 
 pub derivative-inside-spec : {M : Type 1} → statement M
 derivative-inside-spec =

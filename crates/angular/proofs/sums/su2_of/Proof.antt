@@ -1,18 +1,24 @@
--- `angular::sums::su2_of` meets its contract. The invariant: what is left to add gives what the whole gives, and p is the power of x1 below the k-th. Assumes nothing.
+-- `angular::sums::su2_of` meets its contract. The invariant: what is left to add gives what the whole gives, over every list that begins as ck, and p is the power of x1 below the k-th. Assumes nothing.
 use borrow.Author.Needs.{needs}
-use Prim.Native.Nat.{suc, _+_, _-_, _≤_}
+use Prim.Native.Nat.{ℕ, suc, _+_, _-_, _≤_}
 use mathlib.Core.Path.{_≡_, refl, sym, _∙_}
 use native.Mathlib.Omega.{arith}
 use native.Mathlib.Numerals.{add-one}
+use native.Mathlib.Nat.{add-zero}
+use mathlib.Core.List.{List}
 use denote.Ref.{now}
+use lib.Ieee.{Float}
+use Rattle.arith.specs.Double.{_⊕_, _⊗_, dbl, at}
 use Rattle.arith.specs.Powers.{power}
+use Rattle.arith.proofs.Flags.{not-taken}
 use Rattle.angular.specs.Aswfa.{summed, derivativeTerm, su2Of}
+use Rattle.angular.specs.Stages.{Agree}
 use Rattle.angular.proofs.Laws.{summed-stop, summed-on}
 use Rattle.angular.proofs.sums.su2_of.Statement.{statement}
 use Rattle.angular.proofs.sums.su2_of.Tie as tie
 
 abbrev Inv-loop : tie.InvT-loop
-Inv-loop ck x1 nm2 su2₀ p₀ k₀ su2 p k = (2 ≤ k) × (k ≤ suc nm2) × (p ≡ power x1 (k - 1)) × (summed (derivativeTerm ck x1) (suc nm2 - k) k su2 ≡ su2Of ck x1 nm2)
+Inv-loop ck x1 nm2 su2₀ p₀ k₀ su2 p k = (2 ≤ k) × (k ≤ suc nm2) × (p ≡ power x1 (k - 1)) × ((ys : List Float) → Agree (nm2 + 1) ck ys → (more : ℕ) → summed (derivativeTerm ys x1) (suc (nm2 + more) - k) k su2 ≡ su2Of ys x1 (nm2 + more))
 
 abbrev μ-loop : tie.MeasureT-loop
 μ-loop ck x1 nm2 su2₀ p₀ k₀ su2 p k = suc nm2 - k
@@ -22,7 +28,12 @@ element-copy-out-su2 c = search needs
 
 loop-holds : tie.Need-loop-holds Inv-loop μ-loop
 unfolding power su2Of
-loop-holds c = let h : suc (c .before .args .nm2) - 2 ≡ c .before .args .nm2 - 1 = omega arith in (omega arith, omega arith, refl, rw h)
+loop-holds c = (
+  omega arith,
+  omega arith,
+  refl,
+  λ ys same more. let h : suc (c .before .args .nm2 + more) - 2 ≡ c .before .args .nm2 + more - 1 = omega arith in rw (h, same 1 (omega arith)),
+)
 
 int-to-float-r : tie.Need-int-to-float-r Inv-loop μ-loop
 int-to-float-r c = search needs
@@ -37,11 +48,12 @@ converged-requires : tie.Need-converged-requires Inv-loop μ-loop
 converged-requires c κs = search needs
 
 returns : tie.Need-returns Inv-loop μ-loop
-returns c =
-    let a = c .before .before .before .before .before .before .before .args in
+returns c = let a = c .before .before .before .before .before .before .before .args in
     let l = c .before .before .before .before .before .loop in
-    let h : suc (a .nm2) - l .k ≡ suc (a .nm2 - l .k) = omega arith in
-    summed-stop (derivativeTerm (now (a .ck)) (a .x1)) (a .nm2 - l .k) (l .k) _ (l .su2) (rw (l .inv .2)) (sym (c .before .converged .ensures) ∙ c .if1 .taken) ∙ rw h at (l .inv .3)
+    let all : (ys : List Float) → Agree (a .nm2 + 1) (now (a .ck)) ys → (more : ℕ) → l .su2 ⊕ dbl (l .k) ⊗ at (now (a .ck)) (l .k) ⊗ l .p ≡ su2Of ys (a .x1) (a .nm2 + more) = λ ys same more.
+    let h : suc (a .nm2 + more) - l .k ≡ suc (a .nm2 + more - l .k) = omega arith in
+    summed-stop (derivativeTerm ys (a .x1)) (a .nm2 + more - l .k) (l .k) _ (l .su2) (rw (l .inv .2, same (l .k) (omega arith))) (sym (c .before .converged .ensures) ∙ c .if1 .taken) ∙ rw h at (l .inv .3 ys same more) in
+    (rw (add-zero (a .nm2)) at (all (now (a .ck)) (λ i g. refl) 0), λ e ys same more. sym (all ys same more))
 
 add-k : tie.Need-add-k Inv-loop μ-loop
 add-k c = search needs
@@ -51,22 +63,23 @@ loop-less c = search needs
 
 loop-again : tie.Need-loop-again Inv-loop μ-loop
 unfolding power
-loop-again c =
-    let a = c .before .before .before .before .before .before .before .args in
+loop-again c = let a = c .before .before .before .before .before .before .before .args in
     let l = c .before .before .before .before .before .loop in
-    let h : suc (a .nm2) - l .k ≡ suc (a .nm2 - l .k) = omega arith in
-    let h' : suc (a .nm2) - suc (l .k) ≡ a .nm2 - l .k = omega arith in
     let g : l .k + 1 - 1 ≡ suc (l .k - 1) = omega arith in (
       omega arith,
       omega arith,
       rw (g, l .inv .2),
-      rw (add-one (l .k), h')
-          (summed-on (derivativeTerm (now (a .ck)) (a .x1)) (a .nm2 - l .k) (l .k) _ (l .su2) (rw (l .inv .2)) (sym (c .before .converged .ensures) ∙ c .if1 .left) ∙ rw h at (l .inv .3)),
+      λ ys same more.
+          let h : suc (a .nm2 + more) - l .k ≡ suc (a .nm2 + more - l .k) = omega arith in
+          let h' : suc (a .nm2 + more) - suc (l .k) ≡ a .nm2 + more - l .k = omega arith in
+          rw (add-one (l .k), h') (summed-on (derivativeTerm ys (a .x1)) (a .nm2 + more - l .k) (l .k) _ (l .su2) (rw (l .inv .2, same (l .k) (omega arith))) (sym (c .before .converged .ensures) ∙ c .if1 .left) ∙ rw h at (l .inv .3 ys same more)),
     )
 
 returns-2 : tie.Need-returns-2 Inv-loop μ-loop
 unfolding summed
-returns-2 c = let h : suc (c .before .before .before .args .nm2) - c .before .loop .k ≡ 0 = omega arith in rw h at (c .before .loop .inv .3)
+returns-2 c = let a = c .before .before .before .args in
+    let h : suc (a .nm2 + 0) - c .before .loop .k ≡ 0 = omega arith in
+    (rw (h, add-zero (a .nm2)) at (c .before .loop .inv .3 (now (a .ck)) (λ i g. refl) 0), λ e. not-taken e)
 
 pub su2-of-spec : {M : Type 1} → statement M
 su2-of-spec =

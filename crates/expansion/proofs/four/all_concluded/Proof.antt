@@ -1,5 +1,7 @@
 -- `expansion::four::all_concluded` meets its contract. Assumes nothing.
 use borrow.Author.Needs.{needs}
+use Prim.Native.Nat.{_+_}
+use mathlib.Core.Path.{_≡_}
 use native.Mathlib.Omega.{arith}
 use Rattle.expansion.proofs.four.all_concluded.Statement.{statement}
 use Rattle.expansion.proofs.four.all_concluded.Tie as tie
@@ -14,7 +16,7 @@ add-concluded-2 : tie.Need-add-concluded-2
 add-concluded-2 c = search needs
 
 concluded-requires-2 : tie.Need-concluded-requires-2
-concluded-requires-2 c κs = (omega arith, omega arith, omega arith, omega arith, omega arith, c .before .pre .5 .1)
+concluded-requires-2 c κs = (omega arith, omega arith, omega arith, omega arith, omega arith, let h : c .before .args .k + 1 + 2 ≡ c .before .args .k + 2 + 1 = omega arith in rw h (c .before .pre .5 .1))
 
 add-concluded-3 : tie.Need-add-concluded-3
 add-concluded-3 c = search needs
@@ -32,7 +34,7 @@ add-concluded-6 : tie.Need-add-concluded-6
 add-concluded-6 c = search needs
 
 concluded-requires-4 : tie.Need-concluded-requires-4
-concluded-requires-4 c κs = (c .before .before .before .pre .0, c .before .before .before .pre .1, omega (arith, c .before .before .before .pre .2), omega (arith, c .before .before .before .pre .3), c .before .before .before .pre .4, c .before .before .before .pre .5 .3)
+concluded-requires-4 c κs = (omega arith, omega arith, omega arith, omega arith, omega arith, let h : c .before .before .before .args .k + 3 + 2 ≡ c .before .before .before .args .k + 2 + 3 = omega arith in rw h (c .before .before .before .pre .5 .3))
 
 returns : tie.Need-returns
 returns c = (c .before .before .before .concluded .ensures, c .before .before .concluded2 .ensures, c .before .concluded3 .ensures, c .concluded4 .ensures)

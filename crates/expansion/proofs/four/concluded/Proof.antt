@@ -1,7 +1,7 @@
 -- `expansion::four::concluded` meets its contract. Assumes nothing.
 use borrow.Author.Needs.{needs}
 use mathlib.Core.Path.{sym, _∙_}
-use Rattle.expansion.proofs.Abreast.{end-going, end-ended, from-stop, from-on}
+use Rattle.expansion.proofs.Abreast.{from-stop, from-on}
 use Rattle.expansion.proofs.four.concluded.Statement.{statement}
 use Rattle.expansion.proofs.four.concluded.Tie as tie
 
@@ -15,18 +15,7 @@ sum-terms-requires : tie.Need-sum-terms-requires
 sum-terms-requires c κs = search needs
 
 returns-2 : tie.Need-returns-2
-returns-2 c = let a = c .before .before .before .before .before .args in
-    c .sum-terms .ensures
-    ∙ sym (end-going _ (a .m) (a .ip) (a .nm) (a .k) (a .i) (a .run) (c .before .before .if2 .taken))
-    ∙ c .before .before .before .before .before .pre .5
-    ∙ from-on _ (a .m) (a .ip) (a .nm) (a .k) (a .first) (a .sw) (sym (c .before .before .before .before .converged .ensures) ∙ c .before .before .before .if1 .left)
-
-returns-3 : tie.Need-returns-3
-returns-3 c = let a = c .before .before .before .before .args in
-    sym (end-ended _ (a .m) (a .ip) (a .nm) (a .k) (a .i) (a .run) (c .before .if2 .left))
-    ∙ c .before .before .before .before .pre .5
-    ∙ from-on _ (a .m) (a .ip) (a .nm) (a .k) (a .first) (a .sw) (sym (c .before .before .before .converged .ensures) ∙ c .before .before .if1 .left)
+returns-2 c = let a = c .before .before .before .args in c .sum-terms .ensures ∙ c .before .before .before .pre .5 ∙ from-on _ (a .m) (a .ip) (a .nm) (a .k) (a .first) (a .sw) (sym (c .before .before .converged .ensures) ∙ c .before .if1 .left)
 
 pub concluded-spec : {M : Type 1} → statement M
-concluded-spec =
-    tie.close (tie.spec converged-requires returns sum-terms-requires returns-2 returns-3)
+concluded-spec = tie.close (tie.spec converged-requires returns sum-terms-requires returns-2)
