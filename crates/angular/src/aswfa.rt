@@ -119,7 +119,7 @@ fn in_stages(df: &[f64; 200], m: u32, n: u32, c: f64, nm2: u32, x: f64) -> Pair
     let ip = (n - m) % 2;
     let mut ck = expansion::sums::blank();
     let mut at = expansion::sckb::start(m, n, c);
-    let mut count: u32 = 12;
+    let mut count: u32 = 16;
     while count <= nm2 {
         at = expansion::sckb::go_on(df, m, n, c, at, count, &mut ck);
         let stage = before_signs(&ck, m, ip, count - 1, x);

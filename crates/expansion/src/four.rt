@@ -131,16 +131,20 @@ fn term_past_first(df: &[f64; 200], m: u32, ip: u32, reg: f64, k: u32, r: f64) -
 fn one_converged(t: Terms, u: Terms) -> bool
     ensures { λ r. ⌜ (r ≡ false → (Sums.converged (t .a .sum) (u .a .sum) ≡ false) × (Sums.converged (t .b .sum) (u .b .sum) ≡ false) × (Sums.converged (t .c .sum) (u .c .sum) ≡ false) × (Sums.converged (t .d .sum) (u .d .sum) ≡ false)) ⌝ }
 {
-    if super::sums::converged(t.a.sum, u.a.sum) {
+    let a = super::sums::converged(t.a.sum, u.a.sum);
+    let b = super::sums::converged(t.b.sum, u.b.sum);
+    let c = super::sums::converged(t.c.sum, u.c.sum);
+    let d = super::sums::converged(t.d.sum, u.d.sum);
+    if a {
         return true;
     }
-    if super::sums::converged(t.b.sum, u.b.sum) {
+    if b {
         return true;
     }
-    if super::sums::converged(t.c.sum, u.c.sum) {
+    if c {
         return true;
     }
-    super::sums::converged(t.d.sum, u.d.sum)
+    d
 }
 
 // The terms that each of the four has, where the first of them has converged or run out of terms.

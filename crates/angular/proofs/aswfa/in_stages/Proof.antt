@@ -11,7 +11,7 @@ use Rattle.angular.proofs.aswfa.in_stages.Statement.{statement}
 use Rattle.angular.proofs.aswfa.in_stages.Tie as tie
 
 abbrev Inv-loop : tie.InvT-loop
-Inv-loop df m n c nm2 x ip ck₀ at₀ count₀ ck at count = (12 ≤ count) × (count ≤ 212) × Stands df m n c at ck
+Inv-loop df m n c nm2 x ip ck₀ at₀ count₀ ck at count = (16 ≤ count) × (count ≤ 212) × Stands df m n c at ck
 
 abbrev μ-loop : tie.MeasureT-loop
 μ-loop df m n c nm2 x ip ck₀ at₀ count₀ ck at count = 212 - count
