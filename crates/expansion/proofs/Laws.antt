@@ -22,7 +22,8 @@ use Rattle.expansion.specs.Sums.{converged, blank}
 use Rattle.expansion.specs.Terms.{halfSum, termsOf, clamped, #175}
 use Rattle.expansion.specs.Products.{rising}
 use Rattle.expansion.specs.Sdmn.{below, above, exceeds, reduced, reducedPlaces, storedBelow, descend, descended, downward, climbed, ascended, upward, sumPast, factorAt, normOf, normalised, scaled, expanded}
-use Rattle.expansion.specs.Sckb.{terms, sumOf, valueOf, filled, regulator}
+use Rattle.expansion.specs.declared.sckb.Carried.{Carried}
+use Rattle.expansion.specs.Sckb.{terms, sumOf, valueOf, filled, regulator, Stands}
 use Rattle.expansion.specs.Sckb as Sckb
 
 -- ---- how far the sums run
@@ -111,13 +112,12 @@ module _ (df : List Float) (m ip k left i : ℕ) (r r' sum sw : Float) (hr : r' 
   terms-on h = rw hr (sym (rw (rw hr at h, terms)))
 
 -- ---- a power coefficient is put into its place
-pub put-on : (df : List Float) (m ip nm count : ℕ) (reg : Float) (k k' : ℕ) (fac fac' sw sw' : Float) (p : Partial) (ck ck' : List Float) → k < count → reg ≡ regulator m nm
-    → p ≡ sumOf df m ip nm reg k sw → ck' ≡ set ck k (valueOf reg m k (neg fac) (p .sum)) → k' ≡ k + 1 → fac' ≡ neg fac → sw' ≡ p .sw
-    → filled df m ip nm (count - k') k' fac' sw' ck' ≡ filled df m ip nm (count - k) k fac sw ck
+pub put-on : (df : List Float) (m ip nm : ℕ) (reg : Float) (a b : Carried) (p : Partial) (ck ck' : List Float) → reg ≡ regulator m nm → Stands df m ip nm a ck → a .k < nm
+    → p ≡ sumOf df m ip nm reg (a .k) (a .sw) → ck' ≡ set ck (a .k) (valueOf reg m (a .k) (neg (a .fac)) (p .sum)) → b .k ≡ a .k + 1 → b .fac ≡ neg (a .fac) → b .sw ≡ p .sw
+    → b .r1 ≡ Sckb.factorial reg (m + b .k) → Stands df m ip nm b ck'
 unfolding filled
-put-on df m ip nm count reg k k' fac fac' sw sw' p ck ck' l hg hp hck hk hf hs =
-    let left : count - k ≡ suc (count - suc k) = omega arith in
-    rw (hk, hf, hs, hck, hp, hg, add-one k, left)
+put-on df m ip nm reg a b p ck ck' hg s l hp hck hk hf hs hr =
+    (rw hk (omega arith), rw (hk, add-one (a .k), hf, s .1), rw (hk, add-one (a .k), hs, hp, hg, s .2), rw (hk, add-one (a .k), hck, hp, hg, s .1, s .2, s .3), rw (← hg) hr)
 
 -- ---- reg × (n + 1)! from reg × n!
 pub factorial-on : (reg : Float) (n : ℕ) → 0 < n → Sckb.factorial reg n ⊗ dbl (n + 1) ≡ Sckb.factorial reg (n + 1)

@@ -52,20 +52,33 @@ factorial reg n = rising reg 2 (n - 1)
 abbrev pub valueOf : Float → ℕ → ℕ → Float → Float → Float
 valueOf reg m k fac sum = fac ⊗ sum ⊘ factorial reg (m + k)
 
--- `left` more coefficients from place k on. The sum remembered is carried from k to k, and fac changes its sign
-unfoldable pub filled : List Float → ℕ → ℕ → ℕ → ℕ → ℕ → Float → Float → List Float → List Float
-filled df m ip nm zero k fac sw ck = ck
-filled df m ip nm (suc left) k fac sw ck =
+-- ---- the coefficients, formed in order
+
+-- the sum remembered, fac, and the coefficients so far
+pub record Filled : Type 0 where
+  pub fac : Float
+  pub sw : Float
+  pub ck : List Float
+
+-- with the first k of nm coefficients in place. The sum remembered is carried from k to k, and fac changes its sign
+unfoldable pub filled : List Float → ℕ → ℕ → ℕ → ℕ → Filled
+filled df m ip nm zero = record { fac = neg (halfTo m); sw = #0; ck = blank }
+filled df m ip nm (suc k) =
+    let s = filled df m ip nm k in
     let reg = regulator m nm in
-    let p = sumOf df m ip nm reg k sw in
-    filled df m ip nm left (suc k) (neg fac) (p .sw) (set ck k (valueOf reg m k (neg fac) (p .sum)))
+    let p = sumOf df m ip nm reg k (s .sw) in
+    record { fac = neg (s .fac); sw = p .sw; ck = set (s .ck) k (valueOf reg m k (neg (s .fac)) (p .sum)) }
 
 -- all of them
 unfoldable pub sckb : List Float → ℕ → ℕ → Float → List Float
-sckb df m n c = let nm = powerTermsOf (n - m) c in filled df m ((n - m) % 2) nm nm 0 (neg (halfTo m)) #0 blank
+sckb df m n c = let nm = powerTermsOf (n - m) c in filled df m ((n - m) % 2) nm nm .ck
 
--- ---- what the contracts speak of where they are formed in parts: those before the k-th are in place, and what is carried on to it will fill the rest
-abbrev pub Stands : List Float → ℕ → ℕ → Float → Carried → List Float → Type 0
-Stands df m n c at ck =
-    let nm = powerTermsOf (n - m) c in
-    (at .k ≤ nm) × (at .r1 ≡ factorial (regulator m nm) (m + at .k)) × (filled df m ((n - m) % 2) nm (nm - at .k) (at .k) (at .fac) (at .sw) ck ≡ sckb df m n c)
+-- what the code carries from coefficient to coefficient is that, with the factorial of the next
+abbrev pub Stands : List Float → ℕ → ℕ → ℕ → Carried → List Float → Type 0
+Stands df m ip nm at ck =
+    let s = filled df m ip nm (at .k) in
+    (at .k ≤ nm) × (at .fac ≡ s .fac) × (at .sw ≡ s .sw) × (ck ≡ s .ck) × (at .r1 ≡ factorial (regulator m nm) (m + at .k))
+
+-- the same for a mode
+abbrev pub StandsFor : List Float → ℕ → ℕ → Float → Carried → List Float → Type 0
+StandsFor df m n c at ck = Stands df m ((n - m) % 2) (powerTermsOf (n - m) c) at ck

@@ -1,6 +1,6 @@
 // The source's `sckb`: the coefficients of the powers of 1 - x^2, from the expansion coefficients.
 ghost use mathlib.Core.Path.{_≡_};
-ghost use Prim.Native.Nat.{_+_, _-_, _<_, _≤_, suc, min};
+ghost use Prim.Native.Nat.{_+_, _-_, _<_, _≤_, suc, min, max};
 ghost use lib.Ieee.{neg};
 ghost use lib.ListN.{set};
 ghost use Rattle.arith.specs.Double.{#0};
@@ -138,9 +138,9 @@ fn fill_fours(
     start: Carried,
     ck: &mut [f64; 200],
 ) -> Carried
-    requires { ⌜ (m < 200) × (ip < 2) × (nm < 200) × (count ≤ nm) × (start .k ≤ nm) × (reg ≡ Sckb.regulator m nm) × (start .r1 ≡ Sckb.factorial reg (m + start .k)) ⌝ }
-    ensures { λ x. ⌜ Sckb.filled (now (df .entry)) m ip nm (nm - x .k) (x .k) (x .fac) (x .sw) (now (ck .exit)) ≡ Sckb.filled (now (df .entry)) m ip nm (nm - start .k) (start .k) (start .fac) (start .sw) (now (ck .entry)) ⌝ }
-    ensures { λ x. ⌜ (x .k ≤ nm) × (x .r1 ≡ Sckb.factorial reg (m + x .k)) ⌝ }
+    requires { ⌜ (m < 200) × (ip < 2) × (nm < 200) × (count ≤ nm) × (reg ≡ Sckb.regulator m nm) × Sckb.Stands (now df) m ip nm start (now ck) ⌝ }
+    ensures { λ x. ⌜ Sckb.Stands (now (df .entry)) m ip nm x (now (ck .exit)) ⌝ }
+    ensures { λ x. ⌜ (start .k ≤ x .k) × (x .k ≤ max (start .k) count) ⌝ }
 {
     let mut at = start;
     while at.k + 4 <= count {
@@ -164,10 +164,9 @@ fn fill_rest(
     start: Carried,
     ck: &mut [f64; 200],
 ) -> Carried
-    requires { ⌜ (m < 200) × (ip < 2) × (nm < 200) × (count ≤ nm) × (start .k ≤ nm) × (reg ≡ Sckb.regulator m nm) × (start .r1 ≡ Sckb.factorial reg (m + start .k)) ⌝ }
-    ensures { λ x. ⌜ Sckb.filled (now (df .entry)) m ip nm (nm - x .k) (x .k) (x .fac) (x .sw) (now (ck .exit)) ≡ Sckb.filled (now (df .entry)) m ip nm (nm - start .k) (start .k) (start .fac) (start .sw) (now (ck .entry)) ⌝ }
-    ensures { λ x. ⌜ (x .k ≤ nm) × (x .r1 ≡ Sckb.factorial reg (m + x .k)) ⌝ }
-    ensures { λ x. ⌜ count ≤ x .k ⌝ }
+    requires { ⌜ (m < 200) × (ip < 2) × (nm < 200) × (count ≤ nm) × (reg ≡ Sckb.regulator m nm) × Sckb.Stands (now df) m ip nm start (now ck) ⌝ }
+    ensures { λ x. ⌜ Sckb.Stands (now (df .entry)) m ip nm x (now (ck .exit)) ⌝ }
+    ensures { λ x. ⌜ x .k ≡ max (start .k) count ⌝ }
 {
     let mut at = start;
     while at.k < count {
@@ -211,9 +210,9 @@ pub fn go_on(
     count: u32,
     ck: &mut [f64; 200],
 ) -> Carried
-    requires { ⌜ Terms.Usable m n c × Sckb.Stands (now df) m n c at (now ck) ⌝ }
-    ensures { λ x. ⌜ Sckb.Stands (now (df .entry)) m n c x (now (ck .exit)) ⌝ }
-    ensures { λ x. ⌜ min count (Terms.powerTermsOf (n - m) c) ≤ x .k ⌝ }
+    requires { ⌜ Terms.Usable m n c × Sckb.StandsFor (now df) m n c at (now ck) ⌝ }
+    ensures { λ x. ⌜ Sckb.StandsFor (now (df .entry)) m n c x (now (ck .exit)) ⌝ }
+    ensures { λ x. ⌜ x .k ≡ max (at .k) (min count (Terms.powerTermsOf (n - m) c)) ⌝ }
 {
     let nm = super::terms::power_terms(n - m, c);
     let ip = (n - m) % 2;

@@ -4,14 +4,14 @@ use Prim.Native.Nat.{_+_, _-_, _*_, _/_, _%_, _≤_}
 use mathlib.Core.Path.{_≡_, sym, _∙_}
 use native.Mathlib.Omega.{arith}
 use denote.Ref.{now}
-use Rattle.expansion.specs.Sckb.{Stands, sckb}
+use Rattle.expansion.specs.Sckb.{StandsFor, sckb}
 use Rattle.expansion.proofs.First.{stands-first, stands-agrees}
 use Rattle.angular.proofs.Laws.{before-signs-same}
 use Rattle.angular.proofs.aswfa.in_stages.Statement.{statement}
 use Rattle.angular.proofs.aswfa.in_stages.Tie as tie
 
 abbrev Inv-loop : tie.InvT-loop
-Inv-loop df m n c nm2 x ip ck₀ at₀ count₀ ck at count = (16 ≤ count) × (count ≤ 212) × Stands df m n c at ck
+Inv-loop df m n c nm2 x ip ck₀ at₀ count₀ ck at count = (16 ≤ count) × (count ≤ 212) × StandsFor df m n c at ck
 
 abbrev μ-loop : tie.MeasureT-loop
 μ-loop df m n c nm2 x ip ck₀ at₀ count₀ ck at count = 212 - count
@@ -42,7 +42,7 @@ returns c = let a = c .before .before .before .before .before .before .before .b
     let l = c .before .before .before .before .before .before .before .loop in
     let g = c .before .before .before .before .go-on .ensures in
     let h : l .count - 1 + (a .nm2 - (l .count - 1)) ≡ a .nm2 = omega arith in
-    sym (rw h at (c .before .before .before-signs .ensures .1 (c .before .if1 .taken) (sckb (now (a .df)) (a .m) (a .n) (a .c)) (λ i q. stands-agrees _ (a .m) (a .n) (a .c) (c .before .before .before .before .go-on .result) _ (l .count) (g .0) (g .1) i (omega arith)) (a .nm2 - (l .count - 1))))
+    sym (rw h at (c .before .before .before-signs .ensures .1 (c .before .if1 .taken) (sckb (now (a .df)) (a .m) (a .n) (a .c)) (λ i q. stands-agrees _ (a .m) (a .n) (a .c) (c .before .before .before .before .go-on .result) _ (l .count) (g .0) (omega (arith, g .1)) i (omega arith)) (a .nm2 - (l .count - 1))))
 
 mul-count : tie.Need-mul-count Inv-loop μ-loop
 mul-count c = search needs
@@ -69,7 +69,7 @@ returns-2 : tie.Need-returns-2 Inv-loop μ-loop
 returns-2 c = let a = c .before .before .before .before .before .before .before .before .before .args in
     let g = c .before .before .before .go-on2 .ensures in
     c .before .before-signs2 .ensures .0
-    ∙ before-signs-same _ (sckb (now (a .df)) (a .m) (a .n) (a .c)) (a .nm2) (c .before .before .before .before .before .before .before .before .before .pre .1) (λ i q. stands-agrees _ (a .m) (a .n) (a .c) (c .before .before .before .go-on2 .result) _ (a .nm2 / 4 * 4 + 4) (g .0) (g .1) i (omega arith)) (a .m) ((a .n - a .m) % 2) (a .x)
+    ∙ before-signs-same _ (sckb (now (a .df)) (a .m) (a .n) (a .c)) (a .nm2) (c .before .before .before .before .before .before .before .before .before .pre .1) (λ i q. stands-agrees _ (a .m) (a .n) (a .c) (c .before .before .before .go-on2 .result) _ (a .nm2 / 4 * 4 + 4) (g .0) (omega (arith, g .1)) i (omega arith)) (a .m) ((a .n - a .m) % 2) (a .x)
 
 pub in-stages-spec : {M : Type 1} → statement M
 in-stages-spec =

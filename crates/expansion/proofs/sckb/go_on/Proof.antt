@@ -1,8 +1,6 @@
 -- `expansion::sckb::go_on` meets its contract. Assumes nothing.
 use borrow.Author.Needs.{needs}
-use mathlib.Core.Path.{_∙_}
 use native.Mathlib.Omega.{arith}
-use Rattle.expansion.specs.Sckb.{regulator}
 use Rattle.expansion.proofs.sckb.go_on.Statement.{statement}
 use Rattle.expansion.proofs.sckb.go_on.Tie as tie
 
@@ -22,21 +20,16 @@ lesser-requires : tie.Need-lesser-requires
 lesser-requires c κs = search needs
 
 fill-fours-requires : tie.Need-fill-fours-requires
-fill-fours-requires c κs = let s = c .before .before .before .before .pre .1 in
-    let e = c .before .before .before .power-terms .ensures .0 in
-    (omega arith, omega arith, omega arith, omega (arith, c .before .lesser .ensures), rw e (s .0), c .before .before .regulator .ensures, rw (c .before .before .regulator .ensures, e) (s .1))
+fill-fours-requires c κs = (omega arith, omega arith, omega arith, omega (arith, c .before .lesser .ensures), c .before .before .regulator .ensures, rw (c .before .before .before .power-terms .ensures .0) (c .before .before .before .before .pre .1))
 
 fill-rest-requires : tie.Need-fill-rest-requires
-fill-rest-requires c κs = let e = c .before .fill-fours .ensures .1 in (omega arith, omega arith, omega arith, omega (arith, c .before .before .before .lesser .ensures), e .0, c .before .before .before .before .regulator .ensures, e .1)
+fill-rest-requires c κs = (omega arith, omega arith, omega arith, omega (arith, c .before .before .before .lesser .ensures), c .before .before .before .before .regulator .ensures, c .before .fill-fours .ensures .0)
 
 returns : tie.Need-returns
-returns c = let s = c .before .before .before .before .before .before .before .pre .1 in
-    let e = c .before .before .before .before .before .before .power-terms .ensures .0 in
+returns c = let e = c .before .before .before .before .before .before .power-terms .ensures .0 in
     let f = c .before .before .fill-fours .ensures in
-    let r = c .fill-rest .ensures in (
-      (rw (← e) (r .1 .0 .0), rw (← e, ← c .before .before .before .before .before .regulator .ensures) (r .1 .0 .1), rw (← e) (r .0 ∙ f .0) ∙ s .2),
-      rw (← e, ← c .before .before .before .before .lesser .ensures) (r .1 .1),
-    )
+    let r = c .fill-rest .ensures in
+    (rw (← e) (r .0), rw (← e) (omega (arith, r .1, f .1, c .before .before .before .before .lesser .ensures)))
 
 pub go-on-spec : {M : Type 1} → statement M
 go-on-spec =
