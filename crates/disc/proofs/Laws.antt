@@ -8,7 +8,7 @@ use lib.IntN.{ℤ, pos, natAbs}
 use lib.Ieee.{Float, lt, le, ofBits}
 use mir.Syntax.{w32}
 use mir.Val.{toZ, ofZ}
-use Rattle.arith.specs.Double.{_⊕_, _⊗_, _⊘_, dbl, at, #0, #1e-280, #1e300}
+use Rattle.arith.specs.Double.{_⊕_, _⊘_, dbl, at, #0, #1e-280, #1e300}
 use Rattle.arith.specs.Choice.{abs}
 use Rattle.arith.specs.Truncation.{truncate}
 use Rattle.arith.proofs.Unsigned.{dbl-unsigned}

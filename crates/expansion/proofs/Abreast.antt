@@ -7,7 +7,7 @@ use native.Mathlib.Omega.{arith}
 use native.Mathlib.Numerals.{add-one}
 use native.Mathlib.Nat.{add-zero}
 use lib.Ieee.{Float}
-use Rattle.arith.specs.Double.{_⊕_, _⊗_, dbl, at, #0·5}
+use Rattle.arith.specs.Double.{_⊗_, at, #0·5}
 use Rattle.expansion.specs.declared.four.Term.{Term}
 use Rattle.expansion.specs.Products.{rising, risingBy}
 use Rattle.expansion.specs.Sums.{converged}

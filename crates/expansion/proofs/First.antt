@@ -1,13 +1,12 @@
 -- The first power coefficients are those of the whole: the places are set in order. Assumes nothing.
-use Prim.Native.Nat.{ℕ, zero, suc, _+_, _-_, _%_, _<_, _≤_, min}
-use mathlib.Core.Path.{_≡_, refl, sym, ap, _∙_}
+use Prim.Native.Nat.{ℕ, zero, suc, _-_, _%_, _<_, _≤_, min}
+use mathlib.Core.Path.{_≡_, sym, ap, _∙_}
 use mathlib.Core.Logic.{⊎-elim}
 use mathlib.Core.List.{List}
 use native.Mathlib.Omega.{arith}
 use native.Mathlib.Decide.{decLe}
 use native.Mathlib.Nat.{add-zero, eq-or-lt-of-le}
 use lib.Ieee.{Float, nan, neg}
-use lib.ListN.{set}
 use lib.Seq.{getD-set-other}
 use Rattle.arith.specs.Double.{at, #0}
 use Rattle.arith.specs.Powers.{halfTo}
