@@ -10,6 +10,8 @@ mod library;
 #[allow(dead_code)]
 #[path = "../differential/random.rs"]
 mod random;
+#[path = "../../rust/spheroidal.rs"]
+mod spheroidal;
 #[path = "../differential/tally.rs"]
 mod tally;
 
@@ -28,25 +30,6 @@ use tally::Tally;
 const KNOWN_RECORDS: &str = "tests/oracle/traps.txt";
 const DEFAULT_MODES: usize = 20_000;
 const DEFAULT_SEED: u64 = 20_261_115;
-
-unsafe extern "C" {
-    fn spheroidal_prolate_coefficients(
-        m: u16,
-        n: u16,
-        c: f64,
-        cv: f64,
-        values: *mut f64,
-        length: usize,
-    ) -> u8;
-    fn spheroidal_oblate_coefficients(
-        m: u16,
-        n: u16,
-        c: f64,
-        cv: f64,
-        values: *mut f64,
-        length: usize,
-    ) -> u8;
-}
 
 /// Where the unaltered Rust follows the power rule too.
 const UNALTERED_AT: [f64; 4] = [0.0, -0.0, 1.0, -1.0];
@@ -217,14 +200,15 @@ fn compare(tally: &mut Tally, record: &Record, ours: &[f64], theirs: &[f64]) {
     });
 }
 
+/// The refusal's number, or 0.
 fn coefficients(kind: Kind, record: &Record, values: &mut [f64]) -> u8 {
     let Record { m, n, c, cv, .. } = *record;
-    let call = match kind {
-        Kind::Prolate => spheroidal_prolate_coefficients,
-        Kind::Oblate => spheroidal_oblate_coefficients,
+    let kind = match kind {
+        Kind::Prolate => spheroidal::Kind::Prolate,
+        Kind::Oblate => spheroidal::Kind::Oblate,
     };
-    // SAFETY: the pointer and the length are those of one slice.
-    unsafe { call(m, n, c, cv, values.as_mut_ptr(), values.len()) }
+    spheroidal::coefficients_into(kind, spheroidal::Mode { m, n, c }, cv, values)
+        .map_or_else(spheroidal::Refusal::number, |()| 0)
 }
 
 /// The pair at x, which need not be the record's: the routine is defined for every x.
