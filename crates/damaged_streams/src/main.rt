@@ -4,15 +4,16 @@
 ghost use mathlib.Core.Path.{_≡_};
 ghost use Prim.Native.Nat.{_+_, _<_, _≤_};
 ghost use lib.ListN.{length};
+ghost use Rattle.stream.specs.Inside.Calls.{longest};
 use libc::STDIN_FILENO;
 use libc::STDOUT_FILENO;
 
 // The least room in which a record is answered: where the program answers many records in a call,
 // this one needs a call for nearly each.
-fn line_buffer() -> [u8; 17200]
-    ensures { λ r. ⌜ 17200 ≡ length r ⌝ }
+fn line_buffer() -> [u8; stream::LONGEST]
+    ensures { λ r. ⌜ longest ≡ length r ⌝ }
 {
-    [0; 17200]
+    [0; stream::LONGEST]
 }
 
 fn print_number(number: u64) {
@@ -22,7 +23,7 @@ fn print_number(number: u64) {
 }
 
 fn answer_stream(input: &[u8], out: &mut [u8])
-    requires { ⌜ (length (now out) ≡ 17200) × (length (now input) ≤ 65536) ⌝ }
+    requires { ⌜ (length (now out) ≡ longest) × (length (now input) ≤ 65536) ⌝ }
     ensures { λ _. ⌜ length (now (out .exit)) ≡ length (now (out .entry)) ⌝ }
 {
     let mut index: u64 = 0;
@@ -40,7 +41,7 @@ fn answer_stream(input: &[u8], out: &mut [u8])
 
 // Ends at a stream that is not whole.
 fn answer_streams(input: &[u8], out: &mut [u8])
-    requires { ⌜ (length (now out) ≡ 17200) × (length (now input) ≤ 65536) ⌝ }
+    requires { ⌜ (length (now out) ≡ longest) × (length (now input) ≤ 65536) ⌝ }
 {
     let mut number: u64 = 0;
     let mut at: usize = 0;

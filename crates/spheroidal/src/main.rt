@@ -4,6 +4,7 @@
 ghost use mathlib.Core.Path.{_≡_};
 ghost use Prim.Native.Nat.{_+_, _<_, _≤_};
 ghost use lib.ListN.{length};
+use libc::STDERR_FILENO;
 use libc::STDIN_FILENO;
 use libc::STDOUT_FILENO;
 
@@ -44,7 +45,8 @@ fn answer_reading(input: &[u8], first: u64, out: &mut [u8]) -> Reading
     Reading { index, done: false }
 }
 
-fn main() {
+// Answers standard input to its end, or to where the stream is refused.
+fn answer_input() {
     let mut input = record_buffer();
     let mut out = io::large_buffer();
     let mut index: u64 = 0;
@@ -62,4 +64,25 @@ fn main() {
         index = reading.index;
         readings = readings + 1;
     }
+}
+
+// The program has no arguments. Whoever gives it some expects another program, and would wait for it
+// in vain where standard input is a terminal.
+fn print_usage() {
+    io::write_all(
+        STDERR_FILENO,
+        b"usage: spheroidal < records > lines\n\
+        It takes no arguments. Standard input has records of 33 bytes: the mark 53 57 (hexadecimal), the\n\
+        operation (one byte), m, n and the allowance (two bytes each), then c, cv and x as doubles, all\n\
+        little-endian. Operations: 1 and 2 rows, 3 and 4 angular, 5 radial, 6 and 7 DLMF rows.\n\
+        The lines and their refusals are told in docs/SPECIFICATION.md.\n",
+    );
+}
+
+fn main() {
+    if 1 < os::arg_count() {
+        print_usage();
+        return;
+    }
+    answer_input();
 }

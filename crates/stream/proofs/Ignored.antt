@@ -1,19 +1,159 @@
--- A record's lines do not depend on what its operation ignores. Assumes nothing.
-use Rattle.stream.specs.Response.{textOf, responseTo}
-use Rattle.stream.specs.Ignored.{AllowanceIgnored, RadialAllowanceIgnored, CvAndXIgnored, DlmfCvAndXIgnored}
+-- A record's lines are the same lines, with its number put in, whatever the fields that its operation ignores. Assumes nothing.
+use Prim.Native.Nat.{ℕ, zero, suc, _+_, _-_}
+use Prim.Native.Char.{code}
+use mathlib.Core.Path.{_≡_, refl, sym, ap, _∙_}
+use mathlib.Core.Bool.{Bool, true, false, cond}
+use mathlib.Core.List.{List, [], _∷_, _++_, append-nil, append-assoc}
+use lib.Dec.{eqb}
+use lib.Ieee.{Float}
+use lib.ListN.{getD, replicate}
+use Rattle.arith.specs.Double.{at, #0}
+use Rattle.records.specs.declared.record.Record.{Record}
+use Rattle.records.specs.Lines.{number, double, newline, bracket, pair, vLine, dLine, aLine, fLine, rLine}
+use Rattle.segv.specs.Row.{Slices}
+use Rattle.modes.specs.declared.answers.Answer.{Answer}
+use Rattle.modes.specs.declared.answers.Answer.the-variants as Answers
+use Rattle.modes.specs.declared.answers.Answer.the-variants.{Pair, Quadruple}
+use Rattle.modes.specs.declared.checking.Mode.{Mode}
+use Rattle.modes.specs.declared.operations.Operation.{Operation}
+use Rattle.modes.specs.declared.operations.Operation.the-variants.{Row, Angular, Radial, DlmfRow, Refused}
+use Rattle.modes.specs.Operations.{operationOf}
+use Rattle.modes.specs.Rows.{rowOf, dlmfOf, blankSlices}
+use Rattle.modes.specs.Angular.{angularOf}
+use Rattle.modes.specs.Radial.{radialOf}
+use Rattle.stream.specs.Response.{vLines, dLines, rowText, dlmfText, answerText, textOf, responseTo}
+use Rattle.stream.specs.Ignored.{AgreeFor, Alike, Line, numbered, IgnoredFields}
 
-pub allowance-ignored : AllowanceIgnored
-unfolding responseTo textOf
-allowance-ignored index a r kind e = rw e
+-- ---- the lines of a record without its number
 
-pub radial-allowance-ignored : RadialAllowanceIgnored
-unfolding responseTo textOf
-radial-allowance-ignored index a r e = rw e
+abbrev line : ℕ → List ℕ → Line
+line letter rest = record { letter = letter; rest = rest }
 
-pub cv-and-x-ignored : CvAndXIgnored
-unfolding responseTo textOf
-cv-and-x-ignored index cv x r kind e = rw e
+abbrev rNumberless : ℕ → Line
+rNumberless refusal = line (code "R") (number refusal ++ newline)
 
-pub dlmf-cv-and-x-ignored : DlmfCvAndXIgnored
-unfolding responseTo textOf
-dlmf-cv-and-x-ignored index cv x r kind e = rw e
+abbrev vNumberless : ℕ → Slices → ℕ → Line
+vNumberless m row j = line (code "V") (number (m + j) ++ number (getD (row .steps) j 0) ++ bracket (at (row .values) j) (at (row .lowers) j) (at (row .uppers) j))
+
+abbrev dNumberless : ℕ → List Float → ℕ → Line
+dNumberless m row j = line (code "D") (number (m + j) ++ double (at row j) ++ newline)
+
+abbrev aNumberless : ℕ → ℕ → Float → Float → Line
+aNumberless m n value derivative = line (code "A") (number m ++ number n ++ pair value derivative ++ newline)
+
+abbrev fNumberless : ℕ → ℕ → Float → Float → Float → Float → Line
+fNumberless m n value1 derivative1 value2 derivative2 = line (code "F") (number m ++ number n ++ pair value1 derivative1 ++ pair value2 derivative2 ++ newline)
+
+-- of a row's first `count` modes
+unfoldable eachNumberless : (ℕ → Line) → ℕ → List Line
+eachNumberless of zero = []
+eachNumberless of (suc j) = eachNumberless of j ++ of j ∷ []
+
+unfoldable answerNumberless : ℕ → ℕ → Answer → Line
+answerNumberless m n (Pair value derivative) = aNumberless m n value derivative
+answerNumberless m n (Quadruple value1 derivative1 value2 derivative2) = fNumberless m n value1 derivative1 value2 derivative2
+answerNumberless m n (Answers.Refused k) = rNumberless k
+
+abbrev modeOf : Record → Mode
+modeOf r = record { m = r .m; n = r .n; c = r .c }
+
+unfoldable numberless : Operation → Record → List Line
+numberless (Row kind) r =
+    let a = rowOf kind (modeOf r) (r .allowance) blankSlices in
+    cond (eqb (a .number) 0) (eachNumberless (vNumberless (r .m) (a .after)) (r .n - r .m + 1)) (rNumberless (a .number) ∷ [])
+numberless (DlmfRow kind) r =
+    let a = dlmfOf kind (modeOf r) (r .allowance) (replicate 200 #0) in
+    cond (eqb (a .number) 0) (eachNumberless (dNumberless (r .m) (a .after)) (r .n - r .m + 1)) (rNumberless (a .number) ∷ [])
+numberless (Angular kind) r = answerNumberless (r .m) (r .n) (angularOf kind (modeOf r) (r .cv) (r .x)) ∷ []
+numberless Radial r = answerNumberless (r .m) (r .n) (radialOf (modeOf r) (r .cv) (r .x)) ∷ []
+numberless (Refused k) r = rNumberless k ∷ []
+
+-- ---- with the number put in they are its lines
+
+-- a line with its record's number
+abbrev put : ℕ → Line → List ℕ
+put i l = l .letter ∷ number i ++ l .rest
+
+-- each line is the one without number, the number put in
+assoc-3 : (a b c d : List ℕ) → a ++ b ++ c ++ d ≡ a ++ (b ++ c ++ d)
+assoc-3 a b c d = ap (λ (t : List ℕ). t ++ d) (append-assoc a b c) ∙ append-assoc a (b ++ c) d
+
+v-put : (i m : ℕ) (row : Slices) (j : ℕ) → vLine i (m + j) (getD (row .steps) j 0) (at (row .values) j) (at (row .lowers) j) (at (row .uppers) j) ≡ put i (vNumberless m row j)
+v-put i m row j = assoc-3 (code "V" ∷ number i) (number (m + j)) (number (getD (row .steps) j 0)) (bracket (at (row .values) j) (at (row .lowers) j) (at (row .uppers) j))
+
+d-put : (i m : ℕ) (row : List Float) (j : ℕ) → dLine i (m + j) (at row j) ≡ put i (dNumberless m row j)
+d-put i m row j = assoc-3 (code "D" ∷ number i) (number (m + j)) (double (at row j)) newline
+
+r-put : (i k : ℕ) → rLine i k ≡ put i (rNumberless k)
+r-put i k = append-assoc (code "R" ∷ number i) (number k) newline
+
+answer-put : (i m n : ℕ) (a : Answer) → answerText i m n a ≡ put i (answerNumberless m n a)
+unfolding answerText answerNumberless
+answer-put i m n (Pair value derivative) =
+    ap (λ (t : List ℕ). t ++ newline) (assoc-3 (code "A" ∷ number i) (number m) (number n) (pair value derivative))
+    ∙ append-assoc (code "A" ∷ number i) (number m ++ number n ++ pair value derivative) newline
+answer-put i m n (Quadruple value1 derivative1 value2 derivative2) =
+    ap (λ (t : List ℕ). t ++ pair value2 derivative2 ++ newline) (assoc-3 (code "F" ∷ number i) (number m) (number n) (pair value1 derivative1))
+    ∙ assoc-3 (code "F" ∷ number i) (number m ++ number n ++ pair value1 derivative1) (pair value2 derivative2) newline
+answer-put i m n (Answers.Refused k) = r-put i k
+
+-- a text of one line, and a text with one line more
+one : (i : ℕ) (text : List ℕ) (l : Line) → text ≡ put i l → text ≡ numbered i (l ∷ [])
+unfolding numbered
+one i text l e = e ∙ sym (append-nil (put i l))
+
+numbered-append : (i : ℕ) (xs ys : List Line) → numbered i xs ++ numbered i ys ≡ numbered i (xs ++ ys)
+unfolding numbered
+numbered-append i [] ys = refl
+numbered-append i (x ∷ xs) ys = append-assoc (put i x) (numbered i xs) (numbered i ys) ∙ ap (λ (t : List ℕ). put i x ++ t) (numbered-append i xs ys)
+
+on : (i : ℕ) (text more : List ℕ) (xs : List Line) (l : Line) → text ≡ numbered i xs → more ≡ put i l → text ++ more ≡ numbered i (xs ++ l ∷ [])
+on i text more xs l e h = ap (λ (t : List ℕ). t ++ more) e ∙ ap (λ (t : List ℕ). numbered i xs ++ t) (one i more l h) ∙ numbered-append i xs (l ∷ [])
+
+v-numbered : (i m : ℕ) (row : Slices) (count : ℕ) → vLines i m row count ≡ numbered i (eachNumberless (vNumberless m row) count)
+unfolding vLines eachNumberless numbered
+v-numbered i m row zero = refl
+v-numbered i m row (suc j) = on i (vLines i m row j) _ (eachNumberless (vNumberless m row) j) (vNumberless m row j) (v-numbered i m row j) (v-put i m row j)
+
+d-numbered : (i m : ℕ) (row : List Float) (count : ℕ) → dLines i m row count ≡ numbered i (eachNumberless (dNumberless m row) count)
+unfolding dLines eachNumberless numbered
+d-numbered i m row zero = refl
+d-numbered i m row (suc j) = on i (dLines i m row j) _ (eachNumberless (dNumberless m row) j) (dNumberless m row j) (d-numbered i m row j) (d-put i m row j)
+
+-- the lines of a row, or its refusal's
+row-numbered : (i k : ℕ) (text : List ℕ) (xs : List Line) → text ≡ numbered i xs → cond (eqb k 0) text (rLine i k) ≡ numbered i (cond (eqb k 0) xs (rNumberless k ∷ []))
+row-numbered i k text xs e = go (eqb k 0)
+  where
+    go : (t : Bool) → cond t text (rLine i k) ≡ numbered i (cond t xs (rNumberless k ∷ []))
+    go true = e
+    go false = one i (rLine i k) (rNumberless k) (r-put i k)
+
+answer-numbered : (i m n : ℕ) (a : Answer) → answerText i m n a ≡ numbered i (answerNumberless m n a ∷ [])
+answer-numbered i m n a = one i (answerText i m n a) (answerNumberless m n a) (answer-put i m n a)
+
+text-numbered : (i : ℕ) (op : Operation) (r : Record) → textOf op i r ≡ numbered i (numberless op r)
+unfolding textOf rowText dlmfText numberless
+text-numbered i (Row kind) r = let a = rowOf kind (modeOf r) (r .allowance) blankSlices in row-numbered i (a .number) _ _ (v-numbered i (r .m) (a .after) (r .n - r .m + 1))
+text-numbered i (DlmfRow kind) r = let a = dlmfOf kind (modeOf r) (r .allowance) (replicate 200 #0) in row-numbered i (a .number) _ _ (d-numbered i (r .m) (a .after) (r .n - r .m + 1))
+text-numbered i (Angular kind) r = answer-numbered i (r .m) (r .n) (angularOf kind (modeOf r) (r .cv) (r .x))
+text-numbered i Radial r = answer-numbered i (r .m) (r .n) (radialOf (modeOf r) (r .cv) (r .x))
+text-numbered i (Refused k) r = one i (rLine i k) (rNumberless k) (r-put i k)
+
+-- ---- and they do not depend on what is ignored
+
+same : (r s : Record) → r .m ≡ s .m → r .n ≡ s .n → r .c ≡ s .c → (op : Operation) → AgreeFor op r s → numberless op r ≡ numberless op s
+unfolding AgreeFor numberless
+same r s m n c (Row kind) a = rw (m, n, c, a)
+same r s m n c (DlmfRow kind) a = rw (m, n, c, a)
+same r s m n c (Angular kind) a = rw (m, n, c, a .0, a .1)
+same r s m n c Radial a = rw (m, n, c, a .0, a .1)
+same r s m n c (Refused k) a = refl
+
+pub ignored-fields : IgnoredFields
+unfolding responseTo
+ignored-fields r s a =
+    let op = operationOf (r .operation) in (
+      numberless op r,
+      (λ (i : ℕ). text-numbered i op r),
+      (λ (j : ℕ). ap (λ (k : ℕ). textOf (operationOf k) j s) (sym (a .operation)) ∙ text-numbered j op s ∙ ap (numbered j) (sym (same r s (a .m) (a .n) (a .c) op (a .agree)))),
+    )

@@ -13,7 +13,7 @@ use Rattle.records.specs.declared.record.Record.{Record}
 use Rattle.records.specs.Record.{nextAt, marked}
 use Rattle.records.specs.Lines.{rLine}
 use Rattle.stream.specs.Response.{responseTo}
-use Rattle.stream.specs.Stream.{answeredIn}
+use Rattle.stream.specs.Inside.Calls.{answeredIn, longest}
 
 -- the cases as numbers, so that two of them that differ do so by computation
 code : Next → ℕ
@@ -64,7 +64,7 @@ none-left input at e = go (leb (length input) at) refl
 -- ---- one call
 module _ (left : ℕ) (input : List ℕ) (room at index : ℕ) (text : List ℕ) where
   -- the buffer may be too full for another record
-  pub answered-full : leb (length text + 17200) room ≡ false → answeredIn left input room at index text ≡ record { text = text; at = at; index = index; refused = false }
+  pub answered-full : leb (length text + longest) room ≡ false → answeredIn left input room at index text ≡ record { text = text; at = at; index = index; refused = false }
   unfolding answeredIn
   answered-full h = go left
     where
@@ -72,7 +72,7 @@ module _ (left : ℕ) (input : List ℕ) (room at index : ℕ) (text : List ℕ)
       go zero = refl
       go (suc l) = rw (h, answeredIn)
 
-  module _ (h : leb (length text + 17200) room ≡ true) where
+  module _ (h : leb (length text + longest) room ≡ true) where
     pub answered-end : nextAt input at ≡ End → answeredIn left input room at index text ≡ record { text = text; at = at; index = index; refused = false }
     unfolding answeredIn
     answered-end e = go left

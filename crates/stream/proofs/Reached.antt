@@ -15,7 +15,7 @@ use Rattle.records.specs.Text.{Put}
 use Rattle.records.proofs.Laws.{put-then, put-length}
 use Rattle.stream.specs.declared.stream.Progress.{Progress}
 use Rattle.stream.specs.Response.{responseTo}
-use Rattle.stream.specs.Stream.{Answered, answeredIn, answered, progress}
+use Rattle.stream.specs.Inside.Calls.{Answered, answeredIn, answered, progress, longest}
 use Rattle.stream.proofs.Laws.{put-nothing, put-same}
 use Rattle.stream.proofs.Nexts.{whole-fits, answered-full, answered-end, answered-refused, answered-whole}
 
@@ -46,12 +46,12 @@ module _ {input : List ℕ} {from first : ℕ} {out₀ out : List ℕ} {at index
         is = rw (same, u);
       }
 
-  pub full : length out - used < 17200 → Done input from first out₀ out (record { at = at; index = index; used = used; refused = false })
-  full h = done (s .put) (answered-full _ _ _ _ _ _ (lt-leb (length (s .text) + 17200) (length out₀) (omega (arith, s .put .ends, s .put .fits, put-length (s .put)))))
+  pub full : length out - used < longest → Done input from first out₀ out (record { at = at; index = index; used = used; refused = false })
+  full h = done (s .put) (answered-full _ _ _ _ _ _ (lt-leb (length (s .text) + longest) (length out₀) (omega (arith, s .put .ends, s .put .fits, put-length (s .put)))))
 
-  module _ (h : 17200 ≤ length out - used) where
-    roomy : leb (length (s .text) + 17200) (length out₀) ≡ true
-    roomy = le-leb (length (s .text) + 17200) (length out₀) (omega (arith, s .put .ends, s .put .fits, put-length (s .put)))
+  module _ (h : longest ≤ length out - used) where
+    roomy : leb (length (s .text) + longest) (length out₀) ≡ true
+    roomy = le-leb (length (s .text) + longest) (length out₀) (omega (arith, s .put .ends, s .put .fits, put-length (s .put)))
 
     pub ended : nextAt input at ≡ End → Done input from first out₀ out (record { at = at; index = index; used = used; refused = false })
     ended e = done (s .put) (answered-end _ _ _ _ _ _ roomy e)

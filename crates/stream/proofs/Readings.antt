@@ -8,7 +8,8 @@ use native.Mathlib.Omega.{arith}
 use borrow.Author.Tests.{ltb-true, ltb-false}
 use lib.Dec.{ltb}
 use lib.ListN.{length}
-use Rattle.stream.specs.Stream.{Answered, answered, progress, linesIn, linesFrom, linesAfter}
+use Rattle.stream.specs.Stream.{linesIn, linesFrom}
+use Rattle.stream.specs.Inside.Calls.{Answered, answered, progress, linesAfter, longest}
 use Rattle.stream.specs.Readings.{callsIn, readingFrom, printed, joined, Cut, ReadInParts}
 use Rattle.stream.proofs.StreamLaws as laws
 
@@ -37,7 +38,7 @@ unfolding callsIn
 calls-on most reading room a f h = rw (f, h, callsIn)
 
 -- ---- one reading, and what is read after it
-module _ (reading rest : List ℕ) (room : ℕ) (roomy : 17200 ≤ room) (cut : (length reading % 33 ≡ 0) ⊎ (rest ≡ [])) where
+module _ (reading rest : List ℕ) (room : ℕ) (roomy : longest ≤ room) (cut : (length reading % 33 ≡ 0) ⊎ (rest ≡ [])) where
   abbrev all : Answered → List ℕ
   all a = a .text ++ linesAfter (reading ++ rest) a
 
@@ -126,7 +127,7 @@ module _ (reading rest : List ℕ) (room : ℕ) (roomy : 17200 ≤ room) (cut : 
           let e = ⊎-elim (λ y. absurd (true≢false (sym y ∙ r))) (λ y. y) (ended (length reading) start (omega arith, omega arith) (omega arith)) in
           rw (r, is (a .index), ← laws.next-part reading rest (a .index)) (rw (r, e) at same)
 
-pub read-from : (readings : List (List ℕ)) (room : ℕ) → Cut readings → 17200 ≤ room → (index : ℕ) → printed readings room index ≡ linesFrom (joined readings) 0 index
+pub read-from : (readings : List (List ℕ)) (room : ℕ) → Cut readings → longest ≤ room → (index : ℕ) → printed readings room index ≡ linesFrom (joined readings) 0 index
 unfolding printed joined Cut linesIn
 read-from [] room cut roomy index = refl
 read-from (reading ∷ []) room cut roomy index = reading-lines reading [] room roomy (inr refl) index (λ _. []) (λ _. refl)

@@ -13,7 +13,8 @@ use Rattle.records.specs.declared.record.Record.{Record}
 use Rattle.records.specs.Record.{nextAt, numberAt}
 use Rattle.records.specs.Lines.{rLine}
 use Rattle.stream.specs.Response.{responseTo}
-use Rattle.stream.specs.Stream.{Answered, answeredIn, answered, linesIn, linesFrom, linesAfter}
+use Rattle.stream.specs.Stream.{linesIn, linesFrom}
+use Rattle.stream.specs.Inside.Calls.{Answered, answeredIn, answered, linesAfter, longest}
 use Rattle.stream.specs.StreamLaws.{Unbounded, Joined, Moves, PartsJoined, NextPart}
 use Rattle.stream.proofs.Nexts.{at-end, some-left, whole-fits, none-left, answered-refused, answered-whole}
 
@@ -29,12 +30,12 @@ stays input at index text refused = record { counts = refl; forward = omega arit
 moved-in : (left : ℕ) (input : List ℕ) (room at index : ℕ) (text : List ℕ) → MovedIn input at index (answeredIn left input room at index text)
 unfolding answeredIn
 moved-in zero input room at index text = stays input at index text false
-moved-in (suc left) input room at index text = go (leb (length text + 17200) room) refl (λ r. moved-in left input room (at + 33) (index + 1) (text ++ responseTo index r))
+moved-in (suc left) input room at index text = go (leb (length text + longest) room) refl (λ r. moved-in left input room (at + 33) (index + 1) (text ++ responseTo index r))
   where
     Later : Type 0
     Later = (r : Record) → MovedIn input (at + 33) (index + 1) (answeredIn left input room (at + 33) (index + 1) (text ++ responseTo index r))
 
-    more : leb (length text + 17200) room ≡ true → (x : Next) → nextAt input at ≡ x → Later → MovedIn input at index (answeredIn (suc left) input room at index text)
+    more : leb (length text + longest) room ≡ true → (x : Next) → nextAt input at ≡ x → Later → MovedIn input at index (answeredIn (suc left) input room at index text)
     more h End e later = rw (h, e, answeredIn) (stays input at index text false)
     more h (Refused k) e later = rw (h, e, answeredIn) (stays input at index (text ++ rLine index k) true)
     more h (Whole r) e later =
@@ -42,14 +43,14 @@ moved-in (suc left) input room at index text = go (leb (length text + 17200) roo
         let m = later r in
         rw (h, e, answeredIn) (record { counts = omega (arith, m .counts); forward = omega (arith, m .forward); within = λ _. m .within fits })
 
-    go : (t : Bool) → leb (length text + 17200) room ≡ t → Later → MovedIn input at index (answeredIn (suc left) input room at index text)
+    go : (t : Bool) → leb (length text + longest) room ≡ t → Later → MovedIn input at index (answeredIn (suc left) input room at index text)
     go false h later = rw (h, answeredIn) (stays input at index text false)
     go true h later = more h (nextAt input at) refl later
 
-further : (input : List ℕ) (room at index : ℕ) → 17200 ≤ room → at < length input → answered input room at index .refused ≡ false → at < answered input room at index .at
+further : (input : List ℕ) (room at index : ℕ) → longest ≤ room → at < length input → answered input room at index .refused ≡ false → at < answered input room at index .at
 further input room at index roomy some accepted = go (nextAt input at) refl
   where
-    h : leb (0 + 17200) room ≡ true
+    h : leb (0 + longest) room ≡ true
     h = le-leb _ _ roomy
 
     go : (x : Next) → nextAt input at ≡ x → at < answered input room at index .at
@@ -111,12 +112,12 @@ module _ (part stream : List ℕ) (Good : ℕ → Type 0) (on : (at : ℕ) → G
   joined-in : (left at index : ℕ) (text : List ℕ) → Good at → all (answeredIn left part room at index text) ≡ text ++ linesFrom stream at index
   unfolding answeredIn
   joined-in zero at index text good = refl
-  joined-in (suc left) at index text good = go (leb (length text + 17200) room) refl (λ r. joined-in left (at + 33) (index + 1) (text ++ responseTo index r) (on at good))
+  joined-in (suc left) at index text good = go (leb (length text + longest) room) refl (λ r. joined-in left (at + 33) (index + 1) (text ++ responseTo index r) (on at good))
     where
       Later : Type 0
       Later = (r : Record) → all (answeredIn left part room (at + 33) (index + 1) (text ++ responseTo index r)) ≡ (text ++ responseTo index r) ++ linesFrom stream (at + 33) (index + 1)
 
-      more : leb (length text + 17200) room ≡ true → (x : Next) → nextAt part at ≡ x → Later → all (answeredIn (suc left) part room at index text) ≡ text ++ linesFrom stream at index
+      more : leb (length text + longest) room ≡ true → (x : Next) → nextAt part at ≡ x → Later → all (answeredIn (suc left) part room at index text) ≡ text ++ linesFrom stream at index
       more h End e later = rw (h, e, answeredIn)
       more h (Refused k) e later =
           let e′ = same at good (some-left part at k e) ∙ e in
@@ -126,7 +127,7 @@ module _ (part stream : List ℕ) (Good : ℕ → Type 0) (on : (at : ℕ) → G
           let e′ = same at good (omega arith) ∙ e in
           rw (h, e, answeredIn) (later r ∙ append-assoc text (responseTo index r) (linesFrom stream (at + 33) (index + 1)) ∙ ap (λ (l : List ℕ). text ++ l) (sym (lines-whole stream at index r e′)))
 
-      go : (t : Bool) → leb (length text + 17200) room ≡ t → Later → all (answeredIn (suc left) part room at index text) ≡ text ++ linesFrom stream at index
+      go : (t : Bool) → leb (length text + longest) room ≡ t → Later → all (answeredIn (suc left) part room at index text) ≡ text ++ linesFrom stream at index
       go false h later = rw (h, answeredIn)
       go true h later = more h (nextAt part at) refl later
 

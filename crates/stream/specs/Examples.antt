@@ -15,7 +15,8 @@ use Rattle.modes.specs.Refusals.{signOf, hOf, outOfRange, noParameter, refusalO
 use Rattle.modes.specs.Rows.{tooShort, zeroAt, rowIn, rowOf, blankSlices, lessened, dlmfIn, dlmfOf}
 use Rattle.modes.specs.Angular.{outside, angularRefusal, angularPair, angularOf}
 use Rattle.stream.specs.Response.{vLines, dLines, rowText, dlmfText, answerText, textOf, responseTo}
-use Rattle.stream.specs.Stream.{linesIn, linesOf, Answered, answeredIn, answered}
+use Rattle.stream.specs.Stream.{linesIn, linesOf}
+use Rattle.stream.specs.Inside.Calls.{Answered, answeredIn, answered}
 
 -- a record with this operation, n 2, and all else zero
 abbrev pub asks : ℕ → List ℕ

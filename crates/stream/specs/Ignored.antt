@@ -1,27 +1,40 @@
--- What of a record its lines do not depend on: rows ignore cv and x, angular pairs and radial functions the allowance (document 01, 'A record comes in'). Statements only: `proofs/Ignored.antt` proves them.
+-- What of a record its lines do not depend on (document 01, 'A record comes in'): rows ignore cv and x, angular pairs and radial functions the allowance. Two records that differ only there have lines equal but for the record number, wherever in a stream they stand. Statement only: `proofs/Ignored.antt` proves it.
 use Prim.Native.Nat.{ℕ}
 use mathlib.Core.Path.{_≡_}
-use lib.Ieee.{Float}
+use mathlib.Core.List.{List, [], _∷_, _++_}
 use Rattle.records.specs.declared.record.Record.{Record}
-use Rattle.modes.specs.declared.checking.Kind.{Kind}
-use Rattle.modes.specs.declared.operations.Operation.the-variants.{Row, Angular, Radial, DlmfRow}
+use Rattle.records.specs.Lines.{number}
+use Rattle.modes.specs.declared.operations.Operation.{Operation}
+use Rattle.modes.specs.declared.operations.Operation.the-variants.{Row, Angular, Radial, DlmfRow, Refused}
 use Rattle.modes.specs.Operations.{operationOf}
 use Rattle.stream.specs.Response.{responseTo}
 
-abbrev pub withAllowance : ℕ → Record → Record
-withAllowance a r = record { operation = r .operation; m = r .m; n = r .n; allowance = a; c = r .c; cv = r .cv; x = r .x }
+-- two records agree in what their operation reads besides m, n and c
+unfoldable pub AgreeFor : Operation → Record → Record → Type 0
+AgreeFor (Row kind) r s = r .allowance ≡ s .allowance
+AgreeFor (DlmfRow kind) r s = r .allowance ≡ s .allowance
+AgreeFor (Angular kind) r s = (r .cv ≡ s .cv) × (r .x ≡ s .x)
+AgreeFor Radial r s = (r .cv ≡ s .cv) × (r .x ≡ s .x)
+AgreeFor (Refused k) r s = Unit
 
-abbrev pub withCvAndX : Float → Float → Record → Record
-withCvAndX cv x r = record { operation = r .operation; m = r .m; n = r .n; allowance = r .allowance; c = r .c; cv = cv; x = x }
+-- two records that differ in ignored fields at most
+pub record Alike (r s : Record) : Type 0 where
+  pub operation : r .operation ≡ s .operation
+  pub m : r .m ≡ s .m
+  pub n : r .n ≡ s .n
+  pub c : r .c ≡ s .c
+  pub agree : AgreeFor (operationOf (r .operation)) r s
 
-abbrev pub AllowanceIgnored : Type 0
-AllowanceIgnored = (index a : ℕ) (r : Record) (kind : Kind) → operationOf (r .operation) ≡ Angular kind → responseTo index (withAllowance a r) ≡ responseTo index r
+-- a line without its record's number: the letter, and what follows the number
+pub record Line : Type 0 where
+  pub letter : ℕ
+  pub rest : List ℕ
 
-abbrev pub RadialAllowanceIgnored : Type 0
-RadialAllowanceIgnored = (index a : ℕ) (r : Record) → operationOf (r .operation) ≡ Radial → responseTo index (withAllowance a r) ≡ responseTo index r
+-- lines as a record with this number prints them
+unfoldable pub numbered : ℕ → List Line → List ℕ
+numbered index [] = []
+numbered index (l ∷ ls) = (l .letter ∷ number index ++ l .rest) ++ numbered index ls
 
-abbrev pub CvAndXIgnored : Type 0
-CvAndXIgnored = (index : ℕ) (cv x : Float) (r : Record) (kind : Kind) → operationOf (r .operation) ≡ Row kind → responseTo index (withCvAndX cv x r) ≡ responseTo index r
-
-abbrev pub DlmfCvAndXIgnored : Type 0
-DlmfCvAndXIgnored = (index : ℕ) (cv x : Float) (r : Record) (kind : Kind) → operationOf (r .operation) ≡ DlmfRow kind → responseTo index (withCvAndX cv x r) ≡ responseTo index r
+-- there are lines that both print, each with its own number
+abbrev pub IgnoredFields : Type 0
+IgnoredFields = (r s : Record) → Alike r s → (lines : List Line) × ((i : ℕ) → responseTo i r ≡ numbered i lines) × ((j : ℕ) → responseTo j s ≡ numbered j lines)

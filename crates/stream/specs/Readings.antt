@@ -5,7 +5,8 @@ use mathlib.Core.Bool.{true, false, cond}
 use mathlib.Core.List.{List, [], _∷_, _++_}
 use lib.Dec.{ltb}
 use lib.ListN.{length}
-use Rattle.stream.specs.Stream.{Answered, answered, linesOf}
+use Rattle.stream.specs.Stream.{linesOf}
+use Rattle.stream.specs.Inside.Calls.{Answered, answered, longest}
 
 -- At most `most` calls on a reading after what was answered so far, until all of it is answered or the stream is refused. Each call has a buffer of `room` bytes.
 unfoldable pub callsIn : ℕ → List ℕ → ℕ → Answered → Answered
@@ -38,4 +39,4 @@ Cut (reading ∷ next ∷ readings) = (length reading % 33 ≡ 0) × Cut (next �
 
 -- where the buffer has room for a record's lines, the lines are those of the stream, whatever the readings and the buffer
 abbrev pub ReadInParts : Type 0
-ReadInParts = (readings : List (List ℕ)) (room : ℕ) → Cut readings → 17200 ≤ room → printed readings room 0 ≡ linesOf (joined readings)
+ReadInParts = (readings : List (List ℕ)) (room : ℕ) → Cut readings → longest ≤ room → printed readings room 0 ≡ linesOf (joined readings)

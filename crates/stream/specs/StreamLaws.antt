@@ -9,7 +9,8 @@ use Rattle.records.specs.Record.{nextAt}
 use Rattle.records.specs.Lines.{rLine}
 use Rattle.stream.specs.declared.stream.Progress.{Progress}
 use Rattle.stream.specs.Response.{responseTo}
-use Rattle.stream.specs.Stream.{answered, progress, linesFrom, linesAfter}
+use Rattle.stream.specs.Stream.{linesFrom}
+use Rattle.stream.specs.Inside.Calls.{answered, progress, linesAfter, longest}
 
 -- document 01's sentence as it stands: the bound on the number of records in the definition is never met
 abbrev pub Unbounded : Type 0
@@ -29,7 +30,7 @@ pub record Moved (input : List ℕ) (room at index : ℕ) (r : Progress) : Type 
   pub counts : r .at + 33 * index ≡ at + 33 * r .index
   pub forward : at ≤ r .at
   pub within : at ≤ length input → r .at ≤ length input
-  pub further : 17200 ≤ room → at < length input → r .refused ≡ false → at < r .at
+  pub further : longest ≤ room → at < length input → r .refused ≡ false → at < r .at
 
 abbrev pub Moves : Type 0
 Moves = (input : List ℕ) (room at index : ℕ) (r : Progress) → r ≡ progress (answered input room at index) → Moved input room at index r

@@ -6,6 +6,7 @@ ghost use Rattle.arith.specs.Double.{#0};
 ghost use Rattle.records.specs.Text.{Put};
 ghost use Rattle.segv.specs.Row.{slices};
 ghost use Rattle.stream.specs.Response.{vLines, dLines, rowText, dlmfText, answerText, responseTo};
+ghost use Rattle.stream.specs.Inside.Calls.{longest};
 use modes::Answer;
 use modes::Kind;
 use modes::Mode;
@@ -93,9 +94,9 @@ fn respond_row(
     out: &mut [u8],
     at: usize,
 ) -> usize
-    requires { ⌜ at + 17200 ≤ length (now out) ⌝ }
+    requires { ⌜ at + longest ≤ length (now out) ⌝ }
     ensures { λ r. ⌜ Put (now (out .entry)) (now (out .exit)) at r (rowText index kind mode allowance) ⌝ }
-    ensures { λ r. ⌜ r ≤ at + 17200 ⌝ }
+    ensures { λ r. ⌜ r ≤ at + longest ⌝ }
 {
     let mut values = zero_doubles();
     let mut steps = zero_steps();
@@ -134,9 +135,9 @@ fn respond_dlmf_row(
     out: &mut [u8],
     at: usize,
 ) -> usize
-    requires { ⌜ at + 17200 ≤ length (now out) ⌝ }
+    requires { ⌜ at + longest ≤ length (now out) ⌝ }
     ensures { λ r. ⌜ Put (now (out .entry)) (now (out .exit)) at r (dlmfText index kind mode allowance) ⌝ }
-    ensures { λ r. ⌜ r ≤ at + 17200 ⌝ }
+    ensures { λ r. ⌜ r ≤ at + longest ⌝ }
 {
     let mut values = zero_doubles();
     let answer = modes::dlmf_row(kind, mode, allowance, &mut values);
@@ -180,9 +181,9 @@ fn put_answer(answer: Answer, index: u64, m: u16, n: u16, out: &mut [u8], at: us
 
 // Puts the lines of a record at a place of the buffer, and answers the place after them.
 pub(crate) fn respond(request: Record, index: u64, out: &mut [u8], at: usize) -> usize
-    requires { ⌜ at + 17200 ≤ length (now out) ⌝ }
+    requires { ⌜ at + longest ≤ length (now out) ⌝ }
     ensures { λ r. ⌜ Put (now (out .entry)) (now (out .exit)) at r (responseTo index request) ⌝ }
-    ensures { λ r. ⌜ r ≤ at + 17200 ⌝ }
+    ensures { λ r. ⌜ r ≤ at + longest ⌝ }
 {
     let mode = Mode {
         m: request.m,

@@ -3,7 +3,7 @@ ghost use mathlib.Core.Path.{_≡_};
 ghost use Prim.Native.Nat.{_+_, _<_};
 ghost use lib.ListN.{length};
 ghost use Rattle.records.specs.Text.{Put};
-ghost use Rattle.stream.specs.Stream.{answered, progress};
+ghost use Rattle.stream.specs.Inside.Calls.{answered, progress};
 use super::response;
 use records::Next;
 

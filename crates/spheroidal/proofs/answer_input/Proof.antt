@@ -1,10 +1,10 @@
--- `spheroidal::main` lends each function what its contract asks, and ends. Assumes nothing.
+-- `spheroidal::answer_input` lends each function what its contract asks, and ends. Assumes nothing.
 use Prim.Native.Nat.{_-_, _*_, _≤_}
 use mathlib.Core.Path.{_≡_}
 use lib.ListN.{length}
 use borrow.Author.Needs.{needs}
-use Rattle.spheroidal.proofs.main.Statement.{statement}
-use Rattle.spheroidal.proofs.main.Tie as tie
+use Rattle.spheroidal.proofs.answer_input.Statement.{statement}
+use Rattle.spheroidal.proofs.answer_input.Tie as tie
 
 abbrev Inv-loop : tie.InvT-loop
 Inv-loop input₀ out₀ index₀ readings₀ input out index readings =
@@ -58,8 +58,8 @@ loop-again c = search needs
 returns-3 : tie.Need-returns-3 Inv-loop μ-loop
 returns-3 c = search needs
 
-pub main-spec : {M : Type 1} → statement M
-main-spec =
+pub answer-input-spec : {M : Type 1} → statement M
+answer-input-spec =
     tie.close
     (tie.spec
     Inv-loop
