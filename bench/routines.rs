@@ -1,6 +1,6 @@
 //! Times the ported routines beside the Rust's, one by one, both sides in turn in one process.
 
-#[path = "../tests/ported/library.rs"]
+#[path = "../tests/routines/library.rs"]
 mod library;
 #[allow(dead_code)]
 mod measure;

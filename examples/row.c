@@ -19,7 +19,7 @@ int main(void) {
         m, n, c, SPHEROIDAL_LARGEST_ALLOWANCE, values, SPHEROIDAL_ROW_PLACES, steps,
         SPHEROIDAL_ROW_PLACES, lowers, SPHEROIDAL_ROW_PLACES, uppers, SPHEROIDAL_ROW_PLACES);
     if (answer != SPHEROIDAL_OK) {
-        fprintf(stderr, "the row is refused %d\n", answer);
+        fprintf(stderr, "the row is refused %d: %s\n", answer, spheroidal_refusal_sentence(answer));
         return 1;
     }
     printf("Oblate modes %d to %d with m = %d, c = %g\n", m, n, m, c);
@@ -35,7 +35,8 @@ int main(void) {
         double value, derivative;
         answer = spheroidal_oblate_angular(m, n, c, values[n - m], x, &value, &derivative);
         if (answer != SPHEROIDAL_OK) {
-            fprintf(stderr, "the pair is refused %d\n", answer);
+            fprintf(stderr, "the pair is refused %d: %s\n", answer,
+                    spheroidal_refusal_sentence(answer));
             return 1;
         }
         printf("%4.1f  %27.17g  %27.17g\n", x, value, derivative);

@@ -2,14 +2,29 @@
  * Spheroidal modes of a flat disc, proved: characteristic values, expansion coefficients, angular
  * functions, and both oblate radial functions on the disc. For C99 and C++11 or later, on x86-64
  * Linux. `./build` makes the library, libspheroidal_c.a, which needs nothing but memcpy and memset:
- * no -lm.
+ * no -lm. It is position-independent; `./build` makes a shared library of it, as this line does:
  *
- * A mode is m, n and c: the order m, the degree n, and the size parameter c.
+ *   cc -shared -o libspheroidal_c.so -Wl,--whole-archive libspheroidal_c.a -Wl,--no-whole-archive
+ *
+ * A mode is m, n and c: the order m, the degree n, and the size parameter c. What the functions are
+ * stands below, and with formulas in docs/FUNCTIONS.md.
+ *
+ *   const uint16_t m = 0, n = 4;
+ *   double values[SPHEROIDAL_ROW_PLACES];
+ *   uint8_t answer = spheroidal_prolate_dlmf_row(m, n, 2.5, SPHEROIDAL_LARGEST_ALLOWANCE,
+ *                                                values, SPHEROIDAL_ROW_PLACES);
+ *   if (answer != SPHEROIDAL_OK) {
+ *       fprintf(stderr, "refused %d: %s\n", answer, spheroidal_refusal_sentence(answer));
+ *   }
  *
  * Every function answers SPHEROIDAL_OK, or the number of the refusal. Conditions are tested in the
  * order of their numbers, and the first that applies is the answer. A refused call leaves every lent
  * place as it was. An accepted one writes all the places that it needs and none past them: longer
  * buffers are fine, and what they held before has no part in the answer.
+ *
+ * Where digits end: an answer is what the ported formulas give in doubles. With large n - m, m or c,
+ * and with c just above zero, they lose digits, down to none, and an accepted call can answer NaN or
+ * infinity. docs/ACCURACY.md says where, and how a caller can check.
  *
  * No argument value is forbidden; each is answered or refused. What C cannot check, the caller keeps:
  *
@@ -20,6 +35,9 @@
  * - The floating-point environment is C's default: rounding to nearest, subnormal numbers kept. A
  *   program that gcc links with -ffast-math has them flushed to zero, and gets other bits.
  *
+ * For -Wconversion: C adds uint16_t numbers as int, so a sum is cast, as in (uint16_t)(m + 4), and so
+ * is the length of a row, (size_t)(n - m) + 1. The constants below need no cast.
+ *
  * The functions keep no state, allocate nothing, touch no errno and may run in any number of threads
  * at once. Measured, they use up to 37 KB of stack in rows, 12 KB in radial functions and 6 KB in the
  * others.
@@ -29,6 +47,15 @@
 
 #include <stddef.h>
 #include <stdint.h>
+
+/*
+ * The version. MAJOR moves where a correct program may have to change or gets other answers, MINOR
+ * where something is added, PATCH where neither: speed, comments, how it is built.
+ */
+#define SPHEROIDAL_VERSION_MAJOR 1
+#define SPHEROIDAL_VERSION_MINOR 0
+#define SPHEROIDAL_VERSION_PATCH 0
+#define SPHEROIDAL_VERSION "1.0.0"
 
 /*
  * What a function answers. 1 to 3 are refusals of the record program and never come from here. Let
@@ -50,6 +77,30 @@
 /* A value used up its allowance of steps. */
 #define SPHEROIDAL_REFUSED_ALLOWANCE 10
 
+/* An answer's number in words. */
+static inline const char *spheroidal_refusal_sentence(uint8_t answer) {
+    switch (answer) {
+    case SPHEROIDAL_OK:
+        return "answered";
+    case SPHEROIDAL_REFUSED_MODE_NUMBERS:
+        return "m is above 199, n is below m, or n - m is above 199";
+    case SPHEROIDAL_REFUSED_SIZE_PARAMETER:
+        return "c is not a finite number from zero on";
+    case SPHEROIDAL_REFUSED_TOO_LARGE:
+        return "the mode is too large: (n - m)/2 + c, or in radial functions m beside it";
+    case SPHEROIDAL_REFUSED_CHARACTERISTIC_VALUE:
+        return "the characteristic value is not finite";
+    case SPHEROIDAL_REFUSED_ARGUMENT:
+        return "x is not a number from -1 to 1, or in radial functions not zero";
+    case SPHEROIDAL_REFUSED_BUFFER:
+        return "a lent buffer is too short";
+    case SPHEROIDAL_REFUSED_ALLOWANCE:
+        return "a value used up its allowance of steps";
+    default:
+        return "no answer of this library";
+    }
+}
+
 /* The limits. */
 #define SPHEROIDAL_LARGEST_ORDER 199       /* of m */
 #define SPHEROIDAL_LARGEST_OFFSET 199      /* of n - m */
@@ -59,6 +110,30 @@
 #define SPHEROIDAL_ROW_PLACES 200          /* the most that a row needs in a buffer */
 #define SPHEROIDAL_COEFFICIENTS 200        /* what coefficients need in a buffer, always */
 #define SPHEROIDAL_LARGEST_ALLOWANCE 65535 /* the most steps that can be allowed */
+
+/*
+ * What the functions are. Let s be c^2 for prolate and -c^2 for oblate modes.
+ *
+ * The angular function S(x), for x from -1 to 1, solves
+ *
+ *   d/dx ((1 - x^2) dS/dx) + (cv - s x^2 - m^2/(1 - x^2)) S = 0,
+ *
+ * and the characteristic values cv are those for which S is finite at both ends: at c = 0 they are
+ * n(n + 1). DLMF's lambda (30.2.1, with gamma^2 = s) is cv - s.
+ *
+ * Its normalisation is Flammer's: S(0) = P_n^m(0) where n - m is even, S'(0) = P_n^m'(0) where it is
+ * odd. P_n^m(x) is (1 - x^2)^(m/2) d^m P_n(x)/dx^m, without the sign (-1)^m of Condon and Shortley.
+ * Expansion coefficient i, counted from 0, belongs to P_k^m with k = m + 2i where n - m is even and
+ * k = m + 2i + 1 where it is odd: S is the sum of these products.
+ *
+ * The oblate radial functions R1(x) and R2(x), for x from 0 on, solve
+ *
+ *   d/dx ((x^2 + 1) dR/dx) - (cv - c^2 x^2 - m^2/(x^2 + 1)) R = 0,
+ *
+ * and for large x approach cos(c x - (n + 1) pi/2)/(c x) and sin(c x - (n + 1) pi/2)/(c x). x = 0 is
+ * the disc itself, and c = k a for a disc of radius a and the wave number k. The Wronskian there,
+ * R1 R2' - R1' R2, is 1/c.
+ */
 
 #ifdef __cplusplus
 extern "C" {
@@ -90,7 +165,8 @@ uint8_t spheroidal_oblate_row(uint16_t m, uint16_t n, double c, uint16_t allowan
                               double *uppers, size_t uppers_length);
 
 /*
- * The row's values in DLMF's form: each less c * c.
+ * The row's values in DLMF's form: each less c * c. Prolate ones are DLMF's lambda; oblate ones are
+ * not, since that is the row's value plus c * c.
  *
  * Writes n - m + 1 places. Refusals: 4, 5, 6, 9, 10, as for the row with the same allowance.
  */
@@ -125,7 +201,7 @@ uint8_t spheroidal_oblate_angular(uint16_t m, uint16_t n, double c, double cv, d
  * Both oblate radial functions of mode n with their derivatives on the disc, where x is 0.0 or -0.0,
  * with cv as above: value1 and derivative1 are of the first kind, value2 and derivative2 of the
  * second. The second kind is 1e300 twice where the first expansion coefficient is at most 1e-280 in
- * size. With large n - m, m or c the ported formulas lose their digits (docs/ACCURACY.md).
+ * size.
  *
  * Writes all four places. Refusals: 4, 5, 6, 7, 8.
  */

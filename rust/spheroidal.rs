@@ -13,12 +13,19 @@
 //! Each function answers, or refuses with document 01's number and leaves every lent place as it was.
 //! No argument is forbidden and none makes these functions panic. They keep no state and may run in
 //! any number of threads.
+//!
+//! `include/spheroidal.h` says what the functions are. An answer is what the ported formulas give: with
+//! large n − m, m or c and with c just above zero they lose digits, down to none, and NaN and infinity
+//! can be answers (docs/ACCURACY.md).
 
 // a program that takes this file in need not use all of it
 #![allow(dead_code)]
 
 use std::error::Error;
 use std::fmt;
+
+/// The version, that of the header; which of its numbers moves when is said there.
+pub const VERSION: &str = "1.0.0";
 
 /// The largest m.
 pub const LARGEST_ORDER: u16 = 199;
@@ -104,20 +111,26 @@ impl Refusal {
             Refusal::Allowance => 10,
         }
     }
+
+    /// The refusal in words, those of the header's `spheroidal_refusal_sentence`.
+    pub fn sentence(self) -> &'static str {
+        match self {
+            Refusal::ModeNumbers => "m is above 199, n is below m, or n - m is above 199",
+            Refusal::SizeParameter => "c is not a finite number from zero on",
+            Refusal::TooLarge => {
+                "the mode is too large: (n - m)/2 + c, or in radial functions m beside it"
+            }
+            Refusal::CharacteristicValue => "the characteristic value is not finite",
+            Refusal::Argument => "x is not a number from -1 to 1, or in radial functions not zero",
+            Refusal::Buffer => "a lent buffer is too short",
+            Refusal::Allowance => "a value used up its allowance of steps",
+        }
+    }
 }
 
 impl fmt::Display for Refusal {
     fn fmt(&self, out: &mut fmt::Formatter<'_>) -> fmt::Result {
-        let reason = match self {
-            Refusal::ModeNumbers => "m is above 199, n is below m, or n - m is above 199",
-            Refusal::SizeParameter => "c is not a finite number from zero on",
-            Refusal::TooLarge => "the mode is too large: (n - m)/2 + c, or m beside it",
-            Refusal::CharacteristicValue => "the characteristic value is not finite",
-            Refusal::Argument => "x is outside the function's range",
-            Refusal::Buffer => "a lent slice is too short",
-            Refusal::Allowance => "a value used up its allowance of steps",
-        };
-        write!(out, "refused {}: {reason}", self.number())
+        write!(out, "refused {}: {}", self.number(), self.sentence())
     }
 }
 

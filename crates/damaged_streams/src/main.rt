@@ -1,6 +1,6 @@
 // A test program: answers many streams, damaged ones among them. Standard input has them one after
 // another, each after its length in two bytes, little-endian. Before a stream's lines comes a line
-// `S` with its number. `tests/replay` writes the streams and the oracle's lines.
+// `S` with its number. `tests/replay/run` writes the streams and the oracle's lines.
 ghost use mathlib.Core.Path.{_≡_};
 ghost use Prim.Native.Nat.{_+_, _<_, _≤_};
 ghost use lib.ListN.{length};

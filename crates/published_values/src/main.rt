@@ -1,7 +1,7 @@
 // A test program: holds published values of Flammer and of Zhang and Jin against the library. Standard
 // input has two records for each value: what is asked of the library, and one that carries the
 // published value as its c, how far off an answer may be as its cv, and as its operation which of the
-// answer's numbers is meant, from 0 on. `tests/published` writes it.
+// answer's numbers is meant, from 0 on. `tests/published/run` writes it.
 ghost use Prim.Native.Nat.{_≤_};
 ghost use lib.ListN.{length};
 use libc::STDIN_FILENO;

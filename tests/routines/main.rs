@@ -1,18 +1,18 @@
 //! Holds the ported routines, linked as a static library, against the Rust original.
 
 #[allow(dead_code)]
-#[path = "../differential/generator.rs"]
+#[path = "../compare/generator.rs"]
 mod generator;
 #[allow(dead_code)]
-#[path = "../differential/known.rs"]
+#[path = "../compare/known.rs"]
 mod known;
 mod library;
 #[allow(dead_code)]
-#[path = "../differential/random.rs"]
+#[path = "../compare/random.rs"]
 mod random;
 #[path = "../../rust/spheroidal.rs"]
 mod spheroidal;
-#[path = "../differential/tally.rs"]
+#[path = "../compare/tally.rs"]
 mod tally;
 
 use std::process::ExitCode;

@@ -1,4 +1,4 @@
-/* Written by tests/interfaces/write_expected: calls, each with the oracle's answer. */
+/* Written by tests/interface/write_expected: calls, each with the oracle's answer. */
 /* clang-format off */
 
 static const struct row_call row_calls[] = {

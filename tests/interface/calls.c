@@ -327,6 +327,27 @@ static void check_limits(void) {
           13, "x above 1");
 }
 
+/* The version's string and its numbers, and a sentence for each number, its own for each answer. */
+static void check_words(void) {
+    char version[32];
+    unsigned number, other;
+    const char *name = "words";
+    const char *unknown = spheroidal_refusal_sentence(255);
+    snprintf(version, sizeof version, "%d.%d.%d", SPHEROIDAL_VERSION_MAJOR, SPHEROIDAL_VERSION_MINOR,
+             SPHEROIDAL_VERSION_PATCH);
+    check(strcmp(version, SPHEROIDAL_VERSION) == 0, name, 0, "the version's string");
+    for (number = 0; number < 256; number++) {
+        const char *sentence = spheroidal_refusal_sentence((uint8_t)number);
+        int known = number == SPHEROIDAL_OK || (number >= SPHEROIDAL_REFUSED_MODE_NUMBERS &&
+                                                number <= SPHEROIDAL_REFUSED_ALLOWANCE);
+        int right = (strcmp(sentence, unknown) != 0) == known;
+        for (other = 0; known && other < number; other++) {
+            right = right && strcmp(sentence, spheroidal_refusal_sentence((uint8_t)other)) != 0;
+        }
+        check(right, name, number, "the sentence");
+    }
+}
+
 int main(void) {
     size_t at, fill;
     for (fill = 0; fill < COUNT(fills); fill++) {
@@ -345,6 +366,7 @@ int main(void) {
         }
     }
     check_limits();
+    check_words();
     printf("%ld passed, %ld failed\n", passed, failed);
     return failed == 0 ? 0 : 1;
 }

@@ -1,17 +1,17 @@
 //! Holds the Rust wrapper, `rust/spheroidal.rs`, against the oracle on fresh records.
 
 #[allow(dead_code)]
-#[path = "../differential/generator.rs"]
+#[path = "../compare/generator.rs"]
 mod generator;
 #[allow(dead_code)]
-#[path = "../differential/known.rs"]
+#[path = "../compare/known.rs"]
 mod known;
 #[allow(dead_code)]
-#[path = "../differential/random.rs"]
+#[path = "../compare/random.rs"]
 mod random;
 #[path = "../../rust/spheroidal.rs"]
 mod spheroidal;
-#[path = "../differential/tally.rs"]
+#[path = "../compare/tally.rs"]
 mod tally;
 
 use std::process::ExitCode;

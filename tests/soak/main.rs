@@ -2,16 +2,16 @@
 //! as they come, so that nothing is kept; the memory of our program is watched meanwhile.
 
 #[allow(dead_code)]
-#[path = "../differential/generator.rs"]
+#[path = "../compare/generator.rs"]
 mod generator;
 #[allow(dead_code)]
-#[path = "../differential/landed.rs"]
+#[path = "../compare/landed.rs"]
 mod landed;
 #[allow(dead_code)]
-#[path = "../differential/random.rs"]
+#[path = "../compare/random.rs"]
 mod random;
 mod sums;
-#[path = "../differential/tally.rs"]
+#[path = "../compare/tally.rs"]
 mod tally;
 
 use std::fs;

@@ -5,9 +5,9 @@ mod inputs;
 #[path = "../oracle/src/power_rule.rs"]
 mod power_rule;
 #[allow(dead_code)]
-#[path = "../differential/random.rs"]
+#[path = "../compare/random.rs"]
 mod random;
-#[path = "../differential/tally.rs"]
+#[path = "../compare/tally.rs"]
 mod tally;
 
 use std::process::ExitCode;

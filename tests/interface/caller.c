@@ -1,0 +1,32 @@
+/*
+ * Code as a caller writes it, in C and C++, with the casts that the header names and no others: it must
+ * compile without a warning. Prints the version and the sentence of each refusal.
+ */
+#include <stdio.h>
+
+#include "spheroidal.h"
+
+#if SPHEROIDAL_VERSION_MAJOR < 1
+#error "this header is too old"
+#endif
+
+int main(void) {
+    uint8_t number;
+    uint16_t m;
+    double values[SPHEROIDAL_ROW_PLACES];
+
+    printf("version %s\n", SPHEROIDAL_VERSION);
+    for (number = SPHEROIDAL_REFUSED_MODE_NUMBERS; number <= SPHEROIDAL_REFUSED_ALLOWANCE; number++) {
+        printf("refused %d: %s\n", number, spheroidal_refusal_sentence(number));
+    }
+    for (m = 0; m <= SPHEROIDAL_LARGEST_ORDER; m++) {
+        const uint16_t n = (uint16_t)(m + 4);
+        const uint8_t answer = spheroidal_prolate_dlmf_row(m, n, 2.5, SPHEROIDAL_LARGEST_ALLOWANCE,
+                                                           values, (size_t)(n - m) + 1);
+        if (answer != SPHEROIDAL_OK) {
+            fprintf(stderr, "refused %d: %s\n", answer, spheroidal_refusal_sentence(answer));
+            return answer;
+        }
+    }
+    return 0;
+}
