@@ -12,7 +12,8 @@ use Rattle.segv.specs.declared.bisection.Bracket.{Bracket}
 use Rattle.segv.specs.declared.bisection.Search.{Search}
 use Rattle.segv.specs.declared.bisection.Search.the-variants.{Converged, OutOfSteps}
 use Rattle.segv.specs.declared.families.Family.{Family}
-use Rattle.segv.specs.Bisection.{Ends, ends, Outcome, bisection, withMidpoint, converged, tighten, tightenAll}
+use Rattle.segv.specs.Bisection.{Ends, Outcome, bisection, withMidpoint, converged, tighten, tightenAll}
+use Rattle.segv.specs.Inside.Arrays.{ends}
 use Rattle.segv.specs.Families.{openedAt, onSearch, familyFrom, bisectedFamily, familyOf, bothFamilies, eitherStopped}
 use Rattle.segv.proofs.Sound.{neither}
 

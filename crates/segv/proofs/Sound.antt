@@ -22,7 +22,7 @@ use Rattle.segv.specs.declared.bisection.Bracket.{Bracket}
 use Rattle.segv.specs.declared.bisection.Search.{Search}
 use Rattle.segv.specs.declared.bisection.Search.the-variants.{Converged, OutOfSteps}
 use Rattle.segv.specs.declared.families.Family.{Family}
-use Rattle.segv.specs.Bisection.{Ends, ends, Outcome, bisection, withMidpoint, converged, tighten, tightenAll, tightenOthers}
+use Rattle.segv.specs.Bisection.{Ends, Outcome, bisection, withMidpoint, converged, tighten, tightenAll, tightenOthers}
 use Rattle.segv.specs.Families.{firstBelow, raised, openedAt, familyFrom, onSearch, bisectedFamily, blankBracket, familyOf, bothFamilies, eitherStopped}
 use Rattle.segv.specs.Row.{noBracket, modeAt}
 use Rattle.segv.specs.Sound.{Below, Above, Sound, SoundIn}

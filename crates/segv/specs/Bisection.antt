@@ -2,7 +2,6 @@
 use Prim.Native.Nat.{ℕ, zero, suc, _+_, _-_}
 use mathlib.Core.Bool.{Bool, cond}
 use mathlib.Core.List.{List}
-use mathlib.Core.Path.{_≡_}
 use lib.Dec.{ltb, leb}
 use lib.Ieee.{Float, lt}
 use lib.ListN.{set}
@@ -40,9 +39,6 @@ pub record Ends : Type 0 where
   pub uppers : List Float
   pub lowers : List Float
 
-abbrev pub ends : List Float → List Float → Ends
-ends us ls = record { uppers = us; lowers = ls }
-
 -- A count that reaches the number of places makes the midpoint the last place's upper too. A smaller count raises the lower of the place after the counted one to it,
 -- and lowers the upper of the counted place to it, where that tightens.
 unfoldable pub tightenOthers : ℕ → ℕ → Float → Ends → Ends
@@ -75,8 +71,3 @@ module _ (ds fs : List Float) (entries places : ℕ) where
       let count = negativePivots ds fs entries (h .value) in
       let later = bisection place left (tighten count place h) (tightenAll places place count (h .value) s) in
       cond (converged h) (record { found = Converged h; ends = s }) later
-
-  -- what the code of a bisection answers, and the ends that it leaves
-  pub record Bisected (place allowance : ℕ) (start : Bracket) (before : Ends) (r : Search) (after : Ends) : Type 0 where
-    pub found : r ≡ bisection place allowance start before .found
-    pub left : after ≡ bisection place allowance start before .ends

@@ -2,10 +2,10 @@
 ghost use mathlib.Core.Path.{_≡_};
 ghost use Prim.Native.Nat.{_<_, _≤_};
 ghost use Rattle.segv.specs.Bisection as Bisection;
-ghost use Rattle.segv.specs.Bisection.{ends};
-ghost use Rattle.segv.specs.Ahead.{midpointsAhead, countsAfter};
+ghost use Rattle.segv.specs.Inside.Arrays.{ends};
+ghost use Rattle.segv.specs.Inside.Ahead.{midpointsAhead, countsAfter};
 ghost use Rattle.sturm.specs.Pivots.{negativePivots};
-ghost use Rattle.sturm.specs.SevenShifts.{countsAt};
+ghost use Rattle.sturm.specs.Inside.SevenShifts.{countsAt};
 
 // A characteristic value with its bracket and its step number.
 pub struct Bracket {
@@ -152,7 +152,8 @@ pub(crate) fn bisect(
     lowers: &mut [f64; 100],
 ) -> Search
     requires { ⌜ (entries ≤ 300) × (0 < place) × (place ≤ places) × (places ≤ 100) × (start .steps ≡ 0) ⌝ }
-    ensures { λ r. ⌜ Bisection.Bisected (now (d .entry)) (now (f .entry)) entries places place allowance start (ends (now (uppers .entry)) (now (lowers .entry))) r (ends (now (uppers .exit)) (now (lowers .exit))) ⌝ }
+    ensures { λ r. ⌜ record { found = r; ends = ends (now (uppers .exit)) (now (lowers .exit)) }
+        ≡ Bisection.bisection (now (d .entry)) (now (f .entry)) entries places place allowance start (ends (now (uppers .entry)) (now (lowers .entry))) ⌝ }
 {
     let mut r = start;
     let mut left = allowance;

@@ -2,7 +2,7 @@
 ghost use mathlib.Core.Path.{_≡_};
 ghost use Prim.Native.Nat.{_-_, _<_, _≤_};
 ghost use lib.ListN.{replicate};
-ghost use Rattle.segv.specs.Bisection.{ends};
+ghost use Rattle.segv.specs.Inside.Arrays.{ends};
 ghost use Rattle.segv.specs.Families as Families;
 use super::bisection::Bracket;
 use super::bisection::Search;

@@ -14,10 +14,14 @@ pub record Pivots : Type 0 where
 unfoldable pub substituted : Float → Float
 substituted s = cond (eq s #0) #1e-30 s
 
--- s = (d − f/s) − shift, counted if below zero
+-- (d − f/s) − shift: at the entry d with f beside it, after the pivot s
+abbrev pub pivot : Float → Float → Float → Float → Float
+pivot d f s shift = (d ⊖ f ⊘ s) ⊖ shift
+
+-- counted if below zero
 unfoldable pub nextPivot : Float → Float → Float → Pivots → Pivots
 nextPivot d f shift p =
-    let s = (d ⊖ f ⊘ substituted (p .last)) ⊖ shift in
+    let s = pivot d f (substituted (p .last)) shift in
     record { last = s; negative = cond (lt s #0) (p .negative + 1) (p .negative) }
 
 -- after the first i entries; before the first the pivot is 1
