@@ -14,7 +14,7 @@ use Rattle.segv.specs.declared.families.Family.{Family}
 use Rattle.sturm.specs.Pivots.{negativePivots}
 use Rattle.sturm.specs.Bounds.{boundsOf}
 use Rattle.sturm.specs.Entries.{diagonal, offDiagonal, squares}
-use Rattle.segv.specs.Bisection.{Ends, bisection, withMidpoint, converged, tighten, tightenAll}
+use Rattle.segv.specs.Bisection.{Ends, bisection, withMidpoint, converged, tighten, tightenOthers}
 use Rattle.segv.specs.Families.{openedAt, familyFrom, bisectedFamily, blankBracket, familyOf, Families, bothFamilies, eitherStopped}
 use Rattle.segv.specs.Inside.Arrays.{ends, families}
 use Rattle.segv.specs.Row.{modeAt, Slices, writtenRow, answer, segvRow}
@@ -24,8 +24,8 @@ pub steps-on : (j number : ℕ) (r h t : Bracket) → h ≡ withMidpoint r → t
 unfolding withMidpoint tighten
 steps-on j number r h t hh ht = rw (ht, hh)
 
-pub tightened : (places number j : ℕ) (x : Float) (s : Ends) (us ls : List Float) → us ≡ tightenAll places number j x s .uppers → ls ≡ tightenAll places number j x s .lowers
-    → ends us ls ≡ tightenAll places number j x s
+pub tightened : (places number j : ℕ) (x : Float) (s : Ends) (us ls : List Float) → us ≡ tightenOthers places number j x s .uppers → ls ≡ tightenOthers places number j x s .lowers
+    → ends us ls ≡ tightenOthers places number j x s
 tightened places number j x s us ls hu hl = rw (hu, hl)
 
 module _ (ds fs : List Float) (entries places number : ℕ) where
@@ -39,7 +39,7 @@ module _ (ds fs : List Float) (entries places number : ℕ) where
   met left l r h s b hl hh hb ht = rw (hl, ← hh, ← hb, ht)
 
   pub on : (left l : ℕ) (r h : Bracket) (s : Ends) (b : Bool) (j : ℕ) (t : Bracket) (after : Ends) → left ≡ suc l → h ≡ withMidpoint r → b ≡ converged h → b ≡ false
-      → j ≡ negativePivots ds fs entries (h .value) → t ≡ tighten j number h → after ≡ tightenAll places number j (h .value) s
+      → j ≡ negativePivots ds fs entries (h .value) → t ≡ tighten j number h → after ≡ tightenOthers places number j (h .value) s
       → bisection ds fs entries places number left r s ≡ bisection ds fs entries places number l t after
   unfolding bisection
   on left l r h s b j t after hl hh hb hf hj ht ha = rw (hl, ← hh, ← hb, hf, ← hj, ← ht, ← ha)

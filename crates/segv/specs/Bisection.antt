@@ -41,8 +41,8 @@ pub record Ends : Type 0 where
 
 -- A count that reaches the number of places makes the midpoint the last place's upper too. A smaller count raises the lower of the place after the counted one to it,
 -- and lowers the upper of the counted place to it, where that tightens.
-unfoldable pub tightenOthers : ℕ → ℕ → Float → Ends → Ends
-tightenOthers places count midpoint s =
+unfoldable pub tightenCounted : ℕ → ℕ → Float → Ends → Ends
+tightenCounted places count midpoint s =
     cond (leb places count)
     (record { uppers = set (s .uppers) (places - 1) midpoint; lowers = s .lowers })
     (record {
@@ -50,9 +50,9 @@ tightenOthers places count midpoint s =
       lowers = set (s .lowers) count (greater (at (s .lowers) count) midpoint);
     })
 
--- only where the count makes the midpoint this place's upper
-unfoldable pub tightenAll : ℕ → ℕ → ℕ → Float → Ends → Ends
-tightenAll places place count midpoint s = cond (leb place count) (tightenOthers places count midpoint s) s
+-- of this place's bisection: only where the count makes the midpoint this place's upper
+unfoldable pub tightenOthers : ℕ → ℕ → ℕ → Float → Ends → Ends
+tightenOthers places place count midpoint s = cond (leb place count) (tightenCounted places count midpoint s) s
 
 -- ---- the bisection
 
@@ -69,5 +69,5 @@ module _ (ds fs : List Float) (entries places : ℕ) where
   bisection place (suc left) r s =
       let h = withMidpoint r in
       let count = negativePivots ds fs entries (h .value) in
-      let later = bisection place left (tighten count place h) (tightenAll places place count (h .value) s) in
+      let later = bisection place left (tighten count place h) (tightenOthers places place count (h .value) s) in
       cond (converged h) (record { found = Converged h; ends = s }) later

@@ -74,8 +74,8 @@ fn tighten_others(
     x: f64,
 )
     requires { ⌜ (0 < place) × (place ≤ places) × (places ≤ 100) ⌝ }
-    ensures { λ _. ⌜ now (uppers .exit) ≡ Bisection.tightenAll places place count x (ends (now (uppers .entry)) (now (lowers .entry))) .uppers ⌝ }
-    ensures { λ _. ⌜ now (lowers .exit) ≡ Bisection.tightenAll places place count x (ends (now (uppers .entry)) (now (lowers .entry))) .lowers ⌝ }
+    ensures { λ _. ⌜ now (uppers .exit) ≡ Bisection.tightenOthers places place count x (ends (now (uppers .entry)) (now (lowers .entry))) .uppers ⌝ }
+    ensures { λ _. ⌜ now (lowers .exit) ≡ Bisection.tightenOthers places place count x (ends (now (uppers .entry)) (now (lowers .entry))) .lowers ⌝ }
 {
     if count < place {
         return;

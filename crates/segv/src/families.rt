@@ -105,6 +105,7 @@ fn bisect_family(
             };
         };
         out[p] = r;
+        // The next place may start from this lower. No later place looks at this upper.
         lowers[p] = r.lower;
         p = p + 1;
     }

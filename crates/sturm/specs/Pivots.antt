@@ -1,4 +1,5 @@
--- The negative pivots of a symmetric tridiagonal matrix at a shift: ds is the diagonal, fs has the squares of the entries beside it. Definitions only.
+-- The negative pivots of a symmetric tridiagonal matrix at a shift: ds is the diagonal, fs has the squares of the entries beside it.
+-- In exact arithmetic there are as many as characteristic values below the shift; nothing of the kind is claimed of the rounded ones. Definitions only.
 use Prim.Native.Nat.{ℕ, zero, suc, _+_}
 use mathlib.Core.Bool.{cond}
 use mathlib.Core.List.{List}
@@ -14,11 +15,11 @@ pub record Pivots : Type 0 where
 unfoldable pub substituted : Float → Float
 substituted s = cond (eq s #0) #1e-30 s
 
--- (d − f/s) − shift: at the entry d with f beside it, after the pivot s
+-- (d − f/s) − shift: at the entry d with f beside it, s being the pivot before it or its substitute
 abbrev pub pivot : Float → Float → Float → Float → Float
 pivot d f s shift = (d ⊖ f ⊘ s) ⊖ shift
 
--- counted if below zero
+-- the pivot at one more entry, counted if below zero
 unfoldable pub nextPivot : Float → Float → Float → Pivots → Pivots
 nextPivot d f shift p =
     let s = pivot d f (substituted (p .last)) shift in

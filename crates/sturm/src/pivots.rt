@@ -1,6 +1,7 @@
-// The Sturm count: how many characteristic values of the matrix lie below a shift, by the signs of
-// its pivots. Each pivot waits for the division before it, so the counts at seven shifts are taken in
-// one loop, where seven divisions are under way at a time.
+// The Sturm count: how many pivots of the matrix are below zero at a shift. In exact arithmetic that
+// is how many characteristic values lie below the shift; of rounded pivots it is not proved. Each
+// pivot waits for the division before it, so the counts at seven shifts are taken in one loop, where
+// seven divisions are under way at a time.
 ghost use mathlib.Core.Path.{_≡_};
 ghost use mathlib.Core.Bool.{false, cond};
 ghost use Prim.Native.Nat.{_+_, _<_, _≤_};
@@ -44,7 +45,7 @@ fn divisor(s: f64) -> f64
     s
 }
 
-// The pivot at an entry d with f beside it, after the pivot s.
+// The pivot at the entry d with f beside it. s is the pivot before it, or its substitute.
 fn pivot(d: f64, f: f64, s: f64, shift: f64) -> f64
     ensures { λ r. ⌜ r ≡ Pivots.pivot d f s shift ⌝ }
 {
