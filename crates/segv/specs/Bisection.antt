@@ -39,7 +39,7 @@ pub record Ends : Type 0 where
   pub uppers : List Float
   pub lowers : List Float
 
--- A count that reaches the number of places makes the midpoint the last place's upper too. A smaller count raises the lower of the place after the counted one to it,
+-- Where a count makes the midpoint a place's upper: a count that reaches the number of places makes the midpoint the last place's upper too. A smaller count raises the lower of the place after the counted one to it,
 -- and lowers the upper of the counted place to it, where that tightens.
 unfoldable pub tightenCounted : ℕ → ℕ → Float → Ends → Ends
 tightenCounted places count midpoint s =
@@ -50,7 +50,7 @@ tightenCounted places count midpoint s =
       lowers = set (s .lowers) count (greater (at (s .lowers) count) midpoint);
     })
 
--- of this place's bisection: only where the count makes the midpoint this place's upper
+-- a count below this place's number says nothing of the others
 unfoldable pub tightenOthers : ℕ → ℕ → ℕ → Float → Ends → Ends
 tightenOthers places place count midpoint s = cond (leb place count) (tightenCounted places count midpoint s) s
 
@@ -67,7 +67,7 @@ module _ (ds fs : List Float) (entries places : ℕ) where
   unfoldable pub bisection : ℕ → ℕ → Bracket → Ends → Outcome
   bisection place zero r s = record { found = OutOfSteps; ends = s }
   bisection place (suc left) r s =
-      let h = withMidpoint r in
-      let count = negativePivots ds fs entries (h .value) in
-      let later = bisection place left (tighten count place h) (tightenOthers places place count (h .value) s) in
-      cond (converged h) (record { found = Converged h; ends = s }) later
+      let tested = withMidpoint r in
+      let count = negativePivots ds fs entries (tested .value) in
+      let later = bisection place left (tighten count place tested) (tightenOthers places place count (tested .value) s) in
+      cond (converged tested) (record { found = Converged tested; ends = s }) later

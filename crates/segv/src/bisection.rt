@@ -15,6 +15,7 @@ pub struct Bracket {
     pub steps: u16,
 }
 
+// What a bisection comes to.
 pub enum Search {
     Converged(Bracket),
     OutOfSteps,
@@ -138,8 +139,10 @@ fn counts_after(counts: sturm::Counts, place: usize) -> sturm::Counts
     }
 }
 
-// The allowance falls by one at each midpoint. A step's count is not known before the step, but its
-// midpoint is one of few: one pass counts for three steps, and takes little longer than for one.
+// The bisection of the place with this number, from the bracket `start` on; uppers and lowers have the
+// ends of all places' brackets. The allowance falls by one at each midpoint. A step's count is not
+// known before the step, but its midpoint is one of few: one pass counts for three steps, and takes
+// little longer than for one.
 pub(crate) fn bisect(
     d: &[f64; 300],
     f: &[f64; 300],

@@ -70,6 +70,7 @@ fn blank_brackets() -> [Bracket; 100]
     [blank; 100]
 }
 
+// All places, each from its own start. The first that is out of steps stops the family.
 fn bisect_family(
     d: &[f64; 300],
     f: &[f64; 300],

@@ -1,5 +1,5 @@
 -- The negative pivots of a symmetric tridiagonal matrix at a shift: ds is the diagonal, fs has the squares of the entries beside it.
--- In exact arithmetic there are as many as characteristic values below the shift; nothing of the kind is claimed of the rounded ones. Definitions only.
+-- In exact arithmetic, where no pivot is zero, there are as many as characteristic values below the shift; nothing of the kind is claimed of the rounded ones. Definitions only.
 use Prim.Native.Nat.{ℕ, zero, suc, _+_}
 use mathlib.Core.Bool.{cond}
 use mathlib.Core.List.{List}

@@ -1,7 +1,7 @@
-// The Sturm count: how many pivots of the matrix are below zero at a shift. In exact arithmetic that
-// is how many characteristic values lie below the shift; of rounded pivots it is not proved. Each
-// pivot waits for the division before it, so the counts at seven shifts are taken in one loop, where
-// seven divisions are under way at a time.
+// The Sturm count: how many pivots of the matrix are below zero at a shift. In exact arithmetic,
+// where no pivot is zero, that is how many characteristic values lie below the shift; of rounded
+// pivots it is not proved. Each pivot waits for the division before it, so the counts at seven shifts
+// are taken in one loop, where seven divisions are under way at a time.
 ghost use mathlib.Core.Path.{_≡_};
 ghost use mathlib.Core.Bool.{false, cond};
 ghost use Prim.Native.Nat.{_+_, _<_, _≤_};
