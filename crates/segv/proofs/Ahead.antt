@@ -7,10 +7,10 @@ use lib.Dec.{ltb}
 use lib.Ieee.{Float}
 use Rattle.arith.specs.Double.{_⊕_, _⊘_, #2}
 use Rattle.sturm.specs.declared.pivots.Counts.{Counts}
-use Rattle.sturm.specs.SevenShifts.{countsAt}
+use Rattle.sturm.specs.Inside.SevenShifts.{countsAt}
 use Rattle.segv.specs.declared.bisection.Bracket.{Bracket}
 use Rattle.segv.specs.Bisection.{withMidpoint, tighten}
-use Rattle.segv.specs.Ahead.{midpointsAhead, countsAfter}
+use Rattle.segv.specs.Inside.Ahead.{midpointsAhead, countsAfter}
 
 abbrev mid : Float → Float → Float
 mid lower upper = (upper ⊕ lower) ⊘ #2

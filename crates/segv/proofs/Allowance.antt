@@ -12,7 +12,8 @@ use Rattle.segv.specs.declared.bisection.Bracket.{Bracket}
 use Rattle.segv.specs.declared.bisection.Search.{Search}
 use Rattle.segv.specs.declared.bisection.Search.the-variants.{Converged, OutOfSteps}
 use Rattle.segv.specs.declared.families.Family.{Family}
-use Rattle.segv.specs.Bisection.{Ends, ends, Outcome, bisection, withMidpoint, converged, tighten, tightenAll}
+use Rattle.segv.specs.Bisection.{Ends, Outcome, bisection, withMidpoint, converged, tighten, tightenOthers}
+use Rattle.segv.specs.Inside.Arrays.{ends}
 use Rattle.segv.specs.Families.{openedAt, onSearch, familyFrom, bisectedFamily, familyOf, bothFamilies, eitherStopped}
 use Rattle.segv.proofs.Sound.{neither}
 
@@ -30,7 +31,7 @@ module _ (ds fs : List Float) (entries places : ℕ) where
   bisection-more place (suc a) (suc b) r s h f =
       let m = withMidpoint r in
       let count = negativePivots ds fs entries (m .value) in
-      go (converged m) (record { found = Converged m; ends = s }) (bisection-more place a b (tighten count place m) (tightenAll places place count (m .value) s) (omega arith)) f
+      go (converged m) (record { found = Converged m; ends = s }) (bisection-more place a b (tighten count place m) (tightenOthers places place count (m .value) s) (omega arith)) f
     where
       go : (t : Bool) {x y : Outcome} (z : Outcome) → (Found (y .found) → x ≡ y) → Found (cond t z y .found) → cond t z x ≡ cond t z y
       go true z e g = refl

@@ -14,17 +14,18 @@ use Rattle.segv.specs.declared.families.Family.{Family}
 use Rattle.sturm.specs.Pivots.{negativePivots}
 use Rattle.sturm.specs.Bounds.{boundsOf}
 use Rattle.sturm.specs.Entries.{diagonal, offDiagonal, squares}
-use Rattle.segv.specs.Bisection.{Ends, ends, Bisected, bisection, withMidpoint, converged, tighten, tightenAll}
+use Rattle.segv.specs.Bisection.{Ends, bisection, withMidpoint, converged, tighten, tightenOthers}
 use Rattle.segv.specs.Families.{openedAt, familyFrom, bisectedFamily, blankBracket, familyOf, Families, bothFamilies, eitherStopped}
-use Rattle.segv.specs.Row.{families, modeAt, Slices, writtenRow, answer, segvRow}
+use Rattle.segv.specs.Inside.Arrays.{ends, families}
+use Rattle.segv.specs.Row.{modeAt, Slices, writtenRow, answer, segvRow}
 
 -- a step that goes on counts one
 pub steps-on : (j number : ℕ) (r h t : Bracket) → h ≡ withMidpoint r → t ≡ tighten j number h → t .steps ≡ r .steps + 1
 unfolding withMidpoint tighten
 steps-on j number r h t hh ht = rw (ht, hh)
 
-pub tightened : (places number j : ℕ) (x : Float) (s : Ends) (us ls : List Float) → us ≡ tightenAll places number j x s .uppers → ls ≡ tightenAll places number j x s .lowers
-    → ends us ls ≡ tightenAll places number j x s
+pub tightened : (places number j : ℕ) (x : Float) (s : Ends) (us ls : List Float) → us ≡ tightenOthers places number j x s .uppers → ls ≡ tightenOthers places number j x s .lowers
+    → ends us ls ≡ tightenOthers places number j x s
 tightened places number j x s us ls hu hl = rw (hu, hl)
 
 module _ (ds fs : List Float) (entries places number : ℕ) where
@@ -38,15 +39,10 @@ module _ (ds fs : List Float) (entries places number : ℕ) where
   met left l r h s b hl hh hb ht = rw (hl, ← hh, ← hb, ht)
 
   pub on : (left l : ℕ) (r h : Bracket) (s : Ends) (b : Bool) (j : ℕ) (t : Bracket) (after : Ends) → left ≡ suc l → h ≡ withMidpoint r → b ≡ converged h → b ≡ false
-      → j ≡ negativePivots ds fs entries (h .value) → t ≡ tighten j number h → after ≡ tightenAll places number j (h .value) s
+      → j ≡ negativePivots ds fs entries (h .value) → t ≡ tighten j number h → after ≡ tightenOthers places number j (h .value) s
       → bisection ds fs entries places number left r s ≡ bisection ds fs entries places number l t after
   unfolding bisection
   on left l r h s b j t after hl hh hb hf hj ht ha = rw (hl, ← hh, ← hb, hf, ← hj, ← ht, ← ha)
-
-  pub searched : (allowance : ℕ) (start : Bracket) (before : Ends) (r : Search) (after : Ends)
-      → bisection ds fs entries places number allowance start before ≡ record { found = r; ends = after }
-      → Bisected ds fs entries places number allowance start before r after
-  searched allowance start before r after h = record { found = sym (ap (λ b. b .found) h); left = sym (ap (λ b. b .ends) h) }
 
 module _ (ds fs : List Float) (entries places allowance : ℕ) where
   abbrev Fam : ℕ → ℕ → Ends → List Bracket → Family
@@ -57,16 +53,16 @@ module _ (ds fs : List Float) (entries places allowance : ℕ) where
   all-found p s out = refl
 
   pub one-out-of-steps : (left l p : ℕ) (start : Bracket) (s after : Ends) (out : List Bracket) (r : Search) → left ≡ suc l → start ≡ openedAt s p places
-      → Bisected ds fs entries places (p + 1) allowance start s r after → r ≡ OutOfSteps
+      → record { found = r; ends = after } ≡ bisection ds fs entries places (p + 1) allowance start s → r ≡ OutOfSteps
       → Fam left p s out ≡ record { stopped = true; brackets = out }
   unfolding familyFrom
-  one-out-of-steps left l p start s after out r hl ho b h = rw (hl, ← ho, ← (b .found), h)
+  one-out-of-steps left l p start s after out r hl ho b h = rw (hl, ← ho, ← b, h)
 
   pub one-found : (left l p : ℕ) (start : Bracket) (s after : Ends) (out : List Bracket) (r : Search) (v : Bracket) → left ≡ suc l → start ≡ openedAt s p places
-      → Bisected ds fs entries places (p + 1) allowance start s r after → r ≡ Converged v
+      → record { found = r; ends = after } ≡ bisection ds fs entries places (p + 1) allowance start s → r ≡ Converged v
       → Fam left p s out ≡ Fam l (p + 1) (ends (after .uppers) (set (after .lowers) p (v .lower))) (set out p v)
   unfolding familyFrom
-  one-found left l p start s after out r v hl ho b h = rw (hl, ← ho, ← (b .found), ← (b .left), h)
+  one-found left l p start s after out r v hl ho b h = rw (hl, ← ho, ← b, h)
 
 -- from the first place on
 pub from-first : (ds fs : List Float) (entries places allowance : ℕ) (bounds : Bounds) (us ls : List Float) (out : List Bracket)

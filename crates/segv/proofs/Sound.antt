@@ -22,7 +22,7 @@ use Rattle.segv.specs.declared.bisection.Bracket.{Bracket}
 use Rattle.segv.specs.declared.bisection.Search.{Search}
 use Rattle.segv.specs.declared.bisection.Search.the-variants.{Converged, OutOfSteps}
 use Rattle.segv.specs.declared.families.Family.{Family}
-use Rattle.segv.specs.Bisection.{Ends, ends, Outcome, bisection, withMidpoint, converged, tighten, tightenAll, tightenOthers}
+use Rattle.segv.specs.Bisection.{Ends, Outcome, bisection, withMidpoint, converged, tighten, tightenOthers, tightenCounted}
 use Rattle.segv.specs.Families.{firstBelow, raised, openedAt, familyFrom, onSearch, bisectedFamily, blankBracket, familyOf, bothFamilies, eitherStopped}
 use Rattle.segv.specs.Row.{noBracket, modeAt}
 use Rattle.segv.specs.Sound.{Below, Above, Sound, SoundIn}
@@ -71,9 +71,9 @@ module _ (ds fs : List Float) (entries : ℕ) (bounds : Bounds) (allowance : ℕ
 
   -- ---- the other places
 
-  tightenOthers-good : (places j : ℕ) (x : Float) (s : Ends) → 0 < places → 0 < j → negativePivots ds fs entries x ≡ j → Good places s → Good places (tightenOthers places j x s)
-  unfolding tightenOthers
-  tightenOthers-good places j x s hp hj hc g =
+  tightenCounted-good : (places j : ℕ) (x : Float) (s : Ends) → 0 < places → 0 < j → negativePivots ds fs entries x ≡ j → Good places s → Good places (tightenCounted places j x s)
+  unfolding tightenCounted
+  tightenCounted-good places j x s hp hj hc g =
       cases (Good places) (leb places j) _ _
       (λ e.
       let le : places ≤ j = leb-true places j e in
@@ -92,10 +92,10 @@ module _ (ds fs : List Float) (entries : ℕ) (bounds : Bounds) (allowance : ℕ
             (λ eq. lesser-one (Hi (q + 1)) (at (s .uppers) (j - 1)) x (rw (← eq) (g .highs q hq)) (inr (omega arith)));
       })
 
-  tighten-good : (places number j : ℕ) (x : Float) (s : Ends) → 0 < places → 0 < number → negativePivots ds fs entries x ≡ j → Good places s → Good places (tightenAll places number j x s)
-  unfolding tightenAll
+  tighten-good : (places number j : ℕ) (x : Float) (s : Ends) → 0 < places → 0 < number → negativePivots ds fs entries x ≡ j → Good places s → Good places (tightenOthers places number j x s)
+  unfolding tightenOthers
   tighten-good places number j x s hp hn hc g =
-      cases (Good places) (leb number j) _ _ (λ e. tightenOthers-good places j x s hp (let le : number ≤ j = leb-true number j e in omega arith) hc g) (λ e. g)
+      cases (Good places) (leb number j) _ _ (λ e. tightenCounted-good places j x s hp (let le : number ≤ j = leb-true number j e in omega arith) hc g) (λ e. g)
 
   -- ---- a place's own bracket
 

@@ -2,7 +2,6 @@
 use Prim.Native.Nat.{ℕ, zero, suc, _+_, _-_}
 use mathlib.Core.Bool.{Bool, cond}
 use mathlib.Core.List.{List}
-use mathlib.Core.Path.{_≡_}
 use lib.Dec.{ltb, leb}
 use lib.Ieee.{Float, lt}
 use lib.ListN.{set}
@@ -40,13 +39,10 @@ pub record Ends : Type 0 where
   pub uppers : List Float
   pub lowers : List Float
 
-abbrev pub ends : List Float → List Float → Ends
-ends us ls = record { uppers = us; lowers = ls }
-
--- A count that reaches the number of places makes the midpoint the last place's upper too. A smaller count raises the lower of the place after the counted one to it,
+-- Where a count makes the midpoint a place's upper: a count that reaches the number of places makes the midpoint the last place's upper too. A smaller count raises the lower of the place after the counted one to it,
 -- and lowers the upper of the counted place to it, where that tightens.
-unfoldable pub tightenOthers : ℕ → ℕ → Float → Ends → Ends
-tightenOthers places count midpoint s =
+unfoldable pub tightenCounted : ℕ → ℕ → Float → Ends → Ends
+tightenCounted places count midpoint s =
     cond (leb places count)
     (record { uppers = set (s .uppers) (places - 1) midpoint; lowers = s .lowers })
     (record {
@@ -54,9 +50,9 @@ tightenOthers places count midpoint s =
       lowers = set (s .lowers) count (greater (at (s .lowers) count) midpoint);
     })
 
--- only where the count makes the midpoint this place's upper
-unfoldable pub tightenAll : ℕ → ℕ → ℕ → Float → Ends → Ends
-tightenAll places place count midpoint s = cond (leb place count) (tightenOthers places count midpoint s) s
+-- a count below this place's number says nothing of the others
+unfoldable pub tightenOthers : ℕ → ℕ → ℕ → Float → Ends → Ends
+tightenOthers places place count midpoint s = cond (leb place count) (tightenCounted places count midpoint s) s
 
 -- ---- the bisection
 
@@ -71,12 +67,7 @@ module _ (ds fs : List Float) (entries places : ℕ) where
   unfoldable pub bisection : ℕ → ℕ → Bracket → Ends → Outcome
   bisection place zero r s = record { found = OutOfSteps; ends = s }
   bisection place (suc left) r s =
-      let h = withMidpoint r in
-      let count = negativePivots ds fs entries (h .value) in
-      let later = bisection place left (tighten count place h) (tightenAll places place count (h .value) s) in
-      cond (converged h) (record { found = Converged h; ends = s }) later
-
-  -- what the code of a bisection answers, and the ends that it leaves
-  pub record Bisected (place allowance : ℕ) (start : Bracket) (before : Ends) (r : Search) (after : Ends) : Type 0 where
-    pub found : r ≡ bisection place allowance start before .found
-    pub left : after ≡ bisection place allowance start before .ends
+      let tested = withMidpoint r in
+      let count = negativePivots ds fs entries (tested .value) in
+      let later = bisection place left (tighten count place tested) (tightenOthers places place count (tested .value) s) in
+      cond (converged tested) (record { found = Converged tested; ends = s }) later

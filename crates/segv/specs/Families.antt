@@ -39,27 +39,30 @@ openedAt s p places =
 
 -- ---- all places of a parity
 
--- by what was found
+-- what comes of a search: `stopped`, or what `next` gives of the bracket found
 abbrev pub onSearch : Search → Family → (Bracket → Family) → Family
 onSearch (Converged r) stopped next = next r
 onSearch OutOfSteps stopped next = stopped
 
--- n places from the one at p on; s has the ends so far and `out` the brackets found so far. The first place that is out of steps stops the family.
-unfoldable pub familyFrom : List Float → List Float → ℕ → ℕ → ℕ → ℕ → ℕ → Ends → List Bracket → Family
-familyFrom ds fs entries places allowance zero p s out = record { stopped = false; brackets = out }
-familyFrom ds fs entries places allowance (suc n) p s out =
-    let b = bisection ds fs entries places (p + 1) allowance (openedAt s p places) s in
-    onSearch (b .found) (record { stopped = true; brackets = out })
-    (λ r. familyFrom ds fs entries places allowance n (p + 1) (record { uppers = b .ends .uppers; lowers = set (b .ends .lowers) p (r .lower) }) (set out p r))
-
 unfoldable pub blankBracket : Bracket
 blankBracket = record { value = #0; lower = #0; upper = #0; steps = 0 }
 
--- every bracket starts from the Gershgorin bounds
-unfoldable pub bisectedFamily : List Float → List Float → ℕ → ℕ → ℕ → Bounds → Family
-bisectedFamily ds fs entries places allowance bounds =
-    familyFrom ds fs entries places allowance places 0
-    (record { uppers = replicate 100 (bounds .upper); lowers = replicate 100 (bounds .lower) }) (replicate 100 blankBracket)
+-- of the matrix with the diagonal ds, the squares fs and this many entries; each place has an allowance of so many steps
+module _ (ds fs : List Float) (entries places allowance : ℕ) where
+  -- n places from the one at p on; s has the ends so far and `out` the brackets found so far. The first place that is out of steps stops the family.
+  -- The lower found is kept, since the next place's may rise to it. The upper found is not, though the source keeps both: a place looks at its own upper and at those of later places only.
+  unfoldable pub familyFrom : ℕ → ℕ → Ends → List Bracket → Family
+  familyFrom zero p s out = record { stopped = false; brackets = out }
+  familyFrom (suc n) p s out =
+      let b = bisection ds fs entries places (p + 1) allowance (openedAt s p places) s in
+      onSearch (b .found) (record { stopped = true; brackets = out })
+      (λ r. familyFrom n (p + 1) (record { uppers = b .ends .uppers; lowers = set (b .ends .lowers) p (r .lower) }) (set out p r))
+
+  -- every bracket starts from the Gershgorin bounds
+  unfoldable pub bisectedFamily : Bounds → Family
+  bisectedFamily bounds =
+      familyFrom places 0
+      (record { uppers = replicate 100 (bounds .upper); lowers = replicate 100 (bounds .lower) }) (replicate 100 blankBracket)
 
 -- the family of a parity, 0 even and 1 odd
 unfoldable pub familyOf : ℕ → ℕ → Float → ℕ → ℕ → ℕ → Family

@@ -1,5 +1,5 @@
 pub mod Bisection
-pub mod Ahead
 pub mod Families
 pub mod Row
 pub mod Sound
+pub mod Inside

@@ -1,6 +1,6 @@
 -- The row of the modes from m to n, in a caller's four slices. Definitions only.
 use Prim.Native.Nat.{ℕ, zero, suc, _/_, _%_}
-use mathlib.Core.Bool.{false, cond}
+use mathlib.Core.Bool.{cond}
 use mathlib.Core.List.{List}
 use lib.Dec.{eqb}
 use lib.Ieee.{Float, nan}
@@ -15,9 +15,6 @@ noBracket = record { value = nan; lower = nan; upper = nan; steps = 0 }
 -- the mode at offset j has place j/2 + 1, whole division, among those of its parity
 unfoldable pub modeAt : Families → ℕ → Bracket
 modeAt r j = cond (eqb (j % 2) 0) (getD (r .even .brackets) (j / 2) noBracket) (getD (r .odd .brackets) (j / 2) noBracket)
-
-abbrev pub families : List Bracket → List Bracket → Families
-families even odd = record { even = record { stopped = false; brackets = even }; odd = record { stopped = false; brackets = odd } }
 
 -- ---- the caller's slices
 

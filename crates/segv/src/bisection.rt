@@ -2,10 +2,10 @@
 ghost use mathlib.Core.Path.{_≡_};
 ghost use Prim.Native.Nat.{_<_, _≤_};
 ghost use Rattle.segv.specs.Bisection as Bisection;
-ghost use Rattle.segv.specs.Bisection.{ends};
-ghost use Rattle.segv.specs.Ahead.{midpointsAhead, countsAfter};
+ghost use Rattle.segv.specs.Inside.Arrays.{ends};
+ghost use Rattle.segv.specs.Inside.Ahead.{midpointsAhead, countsAfter};
 ghost use Rattle.sturm.specs.Pivots.{negativePivots};
-ghost use Rattle.sturm.specs.SevenShifts.{countsAt};
+ghost use Rattle.sturm.specs.Inside.SevenShifts.{countsAt};
 
 // A characteristic value with its bracket and its step number.
 pub struct Bracket {
@@ -15,6 +15,7 @@ pub struct Bracket {
     pub steps: u16,
 }
 
+// What a bisection comes to.
 pub enum Search {
     Converged(Bracket),
     OutOfSteps,
@@ -74,8 +75,8 @@ fn tighten_others(
     x: f64,
 )
     requires { ⌜ (0 < place) × (place ≤ places) × (places ≤ 100) ⌝ }
-    ensures { λ _. ⌜ now (uppers .exit) ≡ Bisection.tightenAll places place count x (ends (now (uppers .entry)) (now (lowers .entry))) .uppers ⌝ }
-    ensures { λ _. ⌜ now (lowers .exit) ≡ Bisection.tightenAll places place count x (ends (now (uppers .entry)) (now (lowers .entry))) .lowers ⌝ }
+    ensures { λ _. ⌜ now (uppers .exit) ≡ Bisection.tightenOthers places place count x (ends (now (uppers .entry)) (now (lowers .entry))) .uppers ⌝ }
+    ensures { λ _. ⌜ now (lowers .exit) ≡ Bisection.tightenOthers places place count x (ends (now (uppers .entry)) (now (lowers .entry))) .lowers ⌝ }
 {
     if count < place {
         return;
@@ -138,8 +139,10 @@ fn counts_after(counts: sturm::Counts, place: usize) -> sturm::Counts
     }
 }
 
-// The allowance falls by one at each midpoint. A step's count is not known before the step, but its
-// midpoint is one of few: one pass counts for three steps, and takes little longer than for one.
+// The bisection of the place with this number, from the bracket `start` on; uppers and lowers have the
+// ends of all places' brackets. The allowance falls by one at each midpoint. A step's count is not
+// known before the step, but its midpoint is one of few: one pass counts for three steps, and takes
+// little longer than for one.
 pub(crate) fn bisect(
     d: &[f64; 300],
     f: &[f64; 300],
@@ -152,7 +155,8 @@ pub(crate) fn bisect(
     lowers: &mut [f64; 100],
 ) -> Search
     requires { ⌜ (entries ≤ 300) × (0 < place) × (place ≤ places) × (places ≤ 100) × (start .steps ≡ 0) ⌝ }
-    ensures { λ r. ⌜ Bisection.Bisected (now (d .entry)) (now (f .entry)) entries places place allowance start (ends (now (uppers .entry)) (now (lowers .entry))) r (ends (now (uppers .exit)) (now (lowers .exit))) ⌝ }
+    ensures { λ r. ⌜ record { found = r; ends = ends (now (uppers .exit)) (now (lowers .exit)) }
+        ≡ Bisection.bisection (now (d .entry)) (now (f .entry)) entries places place allowance start (ends (now (uppers .entry)) (now (lowers .entry))) ⌝ }
 {
     let mut r = start;
     let mut left = allowance;

@@ -2,7 +2,7 @@
 ghost use mathlib.Core.Path.{_≡_};
 ghost use Prim.Native.Nat.{_-_, _<_, _≤_};
 ghost use lib.ListN.{replicate};
-ghost use Rattle.segv.specs.Bisection.{ends};
+ghost use Rattle.segv.specs.Inside.Arrays.{ends};
 ghost use Rattle.segv.specs.Families as Families;
 use super::bisection::Bracket;
 use super::bisection::Search;
@@ -70,6 +70,7 @@ fn blank_brackets() -> [Bracket; 100]
     [blank; 100]
 }
 
+// All places, each from its own start. The first that is out of steps stops the family.
 fn bisect_family(
     d: &[f64; 300],
     f: &[f64; 300],
@@ -105,6 +106,7 @@ fn bisect_family(
             };
         };
         out[p] = r;
+        // The next place may start from this lower. No later place looks at this upper.
         lowers[p] = r.lower;
         p = p + 1;
     }

@@ -3,7 +3,8 @@ ghost use mathlib.Core.Path.{_≡_};
 ghost use Prim.Native.Nat.{_+_, _-_, _<_, _≤_};
 ghost use lib.ListN.{length};
 ghost use Rattle.segv.specs.Families.{bothFamilies};
-ghost use Rattle.segv.specs.Row.{modeAt, families, slices, writtenRow, answer, segvRow};
+ghost use Rattle.segv.specs.Inside.Arrays.{families};
+ghost use Rattle.segv.specs.Row.{modeAt, slices, writtenRow, answer, segvRow};
 use super::bisection::Bracket;
 
 // The bracket of the mode at offset j.

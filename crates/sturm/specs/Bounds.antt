@@ -1,4 +1,5 @@
--- The Gershgorin bounds of a symmetric tridiagonal matrix with the diagonal ds and, beside it, es. Definitions only.
+-- The Gershgorin bounds of a symmetric tridiagonal matrix with the diagonal ds and, beside it, es.
+-- In exact arithmetic they enclose its characteristic values; nothing of the kind is claimed of the rounded ones. Definitions only.
 use Prim.Native.Nat.{ℕ, zero, suc, _+_, _-_}
 use mathlib.Core.List.{List}
 use lib.Ieee.{Float}

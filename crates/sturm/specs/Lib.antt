@@ -1,4 +1,4 @@
 pub mod Entries
 pub mod Bounds
 pub mod Pivots
-pub mod SevenShifts
+pub mod Inside

@@ -1,4 +1,5 @@
--- The negative pivots of a symmetric tridiagonal matrix at a shift: ds is the diagonal, fs has the squares of the entries beside it. Definitions only.
+-- The negative pivots of a symmetric tridiagonal matrix at a shift: ds is the diagonal, fs has the squares of the entries beside it.
+-- In exact arithmetic, where no pivot is zero, there are as many as characteristic values below the shift; nothing of the kind is claimed of the rounded ones. Definitions only.
 use Prim.Native.Nat.{ℕ, zero, suc, _+_}
 use mathlib.Core.Bool.{cond}
 use mathlib.Core.List.{List}
@@ -14,10 +15,14 @@ pub record Pivots : Type 0 where
 unfoldable pub substituted : Float → Float
 substituted s = cond (eq s #0) #1e-30 s
 
--- s = (d − f/s) − shift, counted if below zero
+-- (d − f/s) − shift: at the entry d with f beside it, s being the pivot before it or its substitute
+abbrev pub pivot : Float → Float → Float → Float → Float
+pivot d f s shift = (d ⊖ f ⊘ s) ⊖ shift
+
+-- the pivot at one more entry, counted if below zero
 unfoldable pub nextPivot : Float → Float → Float → Pivots → Pivots
 nextPivot d f shift p =
-    let s = (d ⊖ f ⊘ substituted (p .last)) ⊖ shift in
+    let s = pivot d f (substituted (p .last)) shift in
     record { last = s; negative = cond (lt s #0) (p .negative + 1) (p .negative) }
 
 -- after the first i entries; before the first the pivot is 1

@@ -1,4 +1,5 @@
-// The Gershgorin bounds: no characteristic value of the matrix lies outside them.
+// The Gershgorin bounds. In exact arithmetic no characteristic value of the matrix lies outside them;
+// of the rounded bounds that is not proved.
 ghost use mathlib.Core.Path.{_≡_};
 ghost use Prim.Native.Nat.{_<_, _≤_};
 ghost use Rattle.sturm.specs.Bounds.{widen, boundsOf};
@@ -10,7 +11,7 @@ pub struct Bounds {
 
 impl Bounds {
     // The bounds with the interval of radius t about d.
-    pub fn widened(self, d: f64, t: f64) -> Bounds
+    fn widened(self, d: f64, t: f64) -> Bounds
         ensures { λ r. ⌜ r ≡ widen d t self ⌝ }
     {
         Bounds {

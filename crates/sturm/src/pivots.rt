@@ -1,13 +1,15 @@
-// The Sturm count: how many characteristic values of the matrix lie below a shift, by the signs of
-// its pivots. Each pivot waits for the division before it, so the counts at seven shifts are taken in
-// one loop, where seven divisions are under way at a time.
+// The Sturm count: how many pivots of the matrix are below zero at a shift. In exact arithmetic,
+// where no pivot is zero, that is how many characteristic values lie below the shift; of rounded
+// pivots it is not proved. Each pivot waits for the division before it, so the counts at seven shifts
+// are taken in one loop, where seven divisions are under way at a time.
 ghost use mathlib.Core.Path.{_≡_};
 ghost use mathlib.Core.Bool.{false, cond};
 ghost use Prim.Native.Nat.{_+_, _<_, _≤_};
 ghost use lib.Ieee.{lt};
 ghost use Rattle.arith.specs.Double.{#0};
+ghost use Rattle.sturm.specs.Pivots as Pivots;
 ghost use Rattle.sturm.specs.Pivots.{substituted, negativePivots};
-ghost use Rattle.sturm.specs.SevenShifts.{each, nextPivots, countsAt, Few, countedOn};
+ghost use Rattle.sturm.specs.Inside.SevenShifts.{each, nextPivots, countsAt, Few, countedOn};
 
 // A double for each of seven shifts, named as a bisection needs them: x for a midpoint, l and h for
 // those of its lower and its upper half, ll to hh for those of its quarters. Nothing here depends on
@@ -41,6 +43,13 @@ fn divisor(s: f64) -> f64
         return 1e-30;
     }
     s
+}
+
+// The pivot at the entry d with f beside it. s is the pivot before it, or its substitute.
+fn pivot(d: f64, f: f64, s: f64, shift: f64) -> f64
+    ensures { λ r. ⌜ r ≡ Pivots.pivot d f s shift ⌝ }
+{
+    (d - f / s) - shift
 }
 
 fn counted(negative: usize, s: f64) -> usize
@@ -103,13 +112,13 @@ impl Seven {
         ensures { λ r. ⌜ r ≡ nextPivots d f shifts self ⌝ }
     {
         Seven {
-            x: (d - f / self.x) - shifts.x,
-            l: (d - f / self.l) - shifts.l,
-            h: (d - f / self.h) - shifts.h,
-            ll: (d - f / self.ll) - shifts.ll,
-            lh: (d - f / self.lh) - shifts.lh,
-            hl: (d - f / self.hl) - shifts.hl,
-            hh: (d - f / self.hh) - shifts.hh,
+            x: pivot(d, f, self.x, shifts.x),
+            l: pivot(d, f, self.l, shifts.l),
+            h: pivot(d, f, self.h, shifts.h),
+            ll: pivot(d, f, self.ll, shifts.ll),
+            lh: pivot(d, f, self.lh, shifts.lh),
+            hl: pivot(d, f, self.hl, shifts.hl),
+            hh: pivot(d, f, self.hh, shifts.hh),
         }
     }
 }

@@ -6,9 +6,9 @@ use mathlib.Core.List.{List}
 use native.Mathlib.Omega.{arith}
 use native.Mathlib.Numerals.{add-one}
 use lib.Ieee.{Float, lt}
-use Rattle.arith.specs.Double.{_⊖_, _⊘_, #0, at}
-use Rattle.sturm.specs.Pivots.{substituted, nextPivot, pivotsAt, negativePivots}
-use Rattle.sturm.specs.SevenShifts.{each, countsAt, nextPivots, countedOn, Few}
+use Rattle.arith.specs.Double.{#0, at}
+use Rattle.sturm.specs.Pivots.{substituted, pivot, nextPivot, pivotsAt, negativePivots}
+use Rattle.sturm.specs.Inside.SevenShifts.{each, countsAt, nextPivots, countedOn, Few}
 use Rattle.sturm.specs.declared.pivots.Seven.{Seven}
 use Rattle.sturm.specs.declared.pivots.Counts.{Counts}
 
@@ -29,7 +29,7 @@ module _ (ds fs : List Float) (shift : Float) where
   at-most true n i h = omega arith
   at-most false n i h = omega arith
 
-  pub chain-on : (i : ℕ) (s : Float) (n : ℕ) (v t : Float) (k : ℕ) → Chain ds fs shift i s n → v ≡ substituted s → t ≡ (at ds i ⊖ at fs i ⊘ v) ⊖ shift
+  pub chain-on : (i : ℕ) (s : Float) (n : ℕ) (v t : Float) (k : ℕ) → Chain ds fs shift i s n → v ≡ substituted s → t ≡ pivot (at ds i) (at fs i) v shift
       → k ≡ cond (lt t #0) (n + 1) n → Chain ds fs shift (i + 1) t k
   unfolding pivotsAt nextPivot
   chain-on i s n v t k c hv ht hk =

@@ -6,7 +6,8 @@ use mathlib.Core.Path.{_≡_, refl, sym, _∙_}
 use mathlib.Core.Logic.{⊎-elim}
 use native.Mathlib.Omega.{arith}
 use Rattle.sturm.specs.Pivots.{negativePivots}
-use Rattle.segv.specs.Bisection.{bisection, ends}
+use Rattle.segv.specs.Bisection.{bisection}
+use Rattle.segv.specs.Inside.Arrays.{ends}
 use borrow.Author.Needs.{needs}
 use Rattle.segv.proofs.bisection.bisect.Statement.{statement}
 use Rattle.segv.proofs.bisection.bisect.Tie as tie
@@ -37,7 +38,7 @@ returns c =
     let l = c .before .before .before .before .loop in
     let h = c .before .before .with-midpoint in
     let m = laws.met _ _ _ _ _ (l .left) (l .left - 1) (l .r) (h .result) (ends (l .uppers) (l .lowers)) _ (omega arith) (h .ensures) (c .before .converged .ensures) (c .if1 .taken) in
-    laws.searched _ _ _ _ _ _ _ _ _ _ (sym (l .inv .1) ∙ m)
+    sym m ∙ l .inv .1
 
 counts-ahead-requires : tie.Need-counts-ahead-requires Inv-loop μ-loop
 counts-ahead-requires c κs = search needs
@@ -84,7 +85,7 @@ returns-2 : tie.Need-returns-2 Inv-loop μ-loop
 returns-2 c =
     let l = c .before .loop in
     let h : l .left ≡ 0 = omega arith in
-    laws.searched _ _ _ _ _ _ _ _ _ _ (sym (l .inv .1) ∙ rw h (laws.out-of-steps _ _ _ _ _ _ _))
+    sym (rw h (laws.out-of-steps _ _ _ _ _ _ _)) ∙ l .inv .1
 
 pub bisect-spec : {M : Type 1} → statement M
 bisect-spec =

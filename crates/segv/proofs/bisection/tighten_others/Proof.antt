@@ -1,12 +1,12 @@
 -- `segv::bisection::tighten_others` meets its contract. Assumes nothing.
 use borrow.Author.Tests.{le-leb, lt-leb}
-use Rattle.segv.specs.Bisection.{tightenAll, tightenOthers}
+use Rattle.segv.specs.Bisection.{tightenOthers, tightenCounted}
 use borrow.Author.Needs.{needs}
 use Rattle.segv.proofs.bisection.tighten_others.Statement.{statement}
 use Rattle.segv.proofs.bisection.tighten_others.Tie as tie
 
 returns : tie.Need-returns
-unfolding tightenAll
+unfolding tightenOthers
 returns c = (rw (lt-leb _ _ (c .if1 .taken)), rw (lt-leb _ _ (c .if1 .taken)))
 
 sub-uppers : tie.Need-sub-uppers
@@ -19,7 +19,7 @@ element-write-uppers : tie.Need-element-write-uppers
 element-write-uppers c = search needs
 
 returns-2 : tie.Need-returns-2
-unfolding tightenAll tightenOthers
+unfolding tightenOthers tightenCounted
 returns-2 c =
     let h = c .before .if1 .left in
     (rw (le-leb _ _ h, le-leb _ _ (c .if2 .taken)), rw (le-leb _ _ h, le-leb _ _ (c .if2 .taken)))
@@ -58,7 +58,7 @@ element-write-uppers-2 : tie.Need-element-write-uppers-2
 element-write-uppers-2 c = search needs
 
 returns-3 : tie.Need-returns-3
-unfolding tightenAll tightenOthers
+unfolding tightenOthers tightenCounted
 returns-3 c =
     let h = c .before .before .before .before .before .if1 .left in
     let k = c .before .before .before .before .if2 .left in

@@ -3,7 +3,7 @@ use Prim.Native.Nat.{_-_, _+_}
 use mathlib.Core.Path.{_≡_, refl, sym, _∙_}
 use native.Mathlib.Omega.{arith}
 use Rattle.segv.specs.Families.{familyFrom, openedAt}
-use Rattle.segv.specs.Bisection.{ends}
+use Rattle.segv.specs.Inside.Arrays.{ends}
 use Rattle.segv.proofs.Laws as laws
 use borrow.Author.Needs.{needs}
 use Rattle.segv.proofs.families.bisect_family.Statement.{statement}

@@ -4,7 +4,8 @@ use mathlib.Core.Path.{_≡_, refl, ap}
 use native.Mathlib.Omega.{arith}
 use native.Mathlib.Numerals.{add-one}
 use lib.ListN.{length, length-set}
-use Rattle.segv.specs.Row.{slices, written, writtenRow, families, modeAt}
+use Rattle.segv.specs.Row.{slices, written, writtenRow, modeAt}
+use Rattle.segv.specs.Inside.Arrays.{families}
 use borrow.Author.Needs.{needs}
 use Rattle.segv.proofs.row.write_row.Statement.{statement}
 use Rattle.segv.proofs.row.write_row.Tie as tie

@@ -62,7 +62,7 @@ loop-less : tie.Need-loop-less Inv-loop μ-loop
 loop-less c = search needs
 
 loop-again : tie.Need-loop-again Inv-loop μ-loop
-unfolding firstEntries entryF
+unfolding firstEntries
 loop-again c = let l = c .before .before .before .loop in (omega arith, rw (add-one, l .inv .1, c .entry-d .ensures), rw (add-one, l .inv .2, c .before .entry-e .ensures), rw (add-one, l .inv .3, c .before .entry-e .ensures))
 
 returns : tie.Need-returns Inv-loop μ-loop

@@ -2,7 +2,8 @@
 use Prim.Native.Nat.{ℕ, _+_, _<_}
 use mathlib.Core.Bool.{cond}
 use lib.Ieee.{Float, lt}
-use Rattle.arith.specs.Double.{_⊖_, _⊘_, #0}
+use Rattle.arith.specs.Double.{#0}
+use Rattle.sturm.specs.Pivots.{pivot}
 use Rattle.sturm.specs.declared.pivots.Seven.{Seven}
 use Rattle.sturm.specs.declared.pivots.Counts.{Counts}
 
@@ -15,7 +16,7 @@ countsAt g s = record { x = g (s .x); l = g (s .l); h = g (s .h); ll = g (s .ll)
 
 -- at an entry d with f beside it, by these divisors
 abbrev pub nextPivots : Float → Float → Seven → Seven → Seven
-nextPivots d f shifts s = record { x = (d ⊖ f ⊘ s .x) ⊖ shifts .x; l = (d ⊖ f ⊘ s .l) ⊖ shifts .l; h = (d ⊖ f ⊘ s .h) ⊖ shifts .h; ll = (d ⊖ f ⊘ s .ll) ⊖ shifts .ll; lh = (d ⊖ f ⊘ s .lh) ⊖ shifts .lh; hl = (d ⊖ f ⊘ s .hl) ⊖ shifts .hl; hh = (d ⊖ f ⊘ s .hh) ⊖ shifts .hh }
+nextPivots d f shifts s = record { x = pivot d f (s .x) (shifts .x); l = pivot d f (s .l) (shifts .l); h = pivot d f (s .h) (shifts .h); ll = pivot d f (s .ll) (shifts .ll); lh = pivot d f (s .lh) (shifts .lh); hl = pivot d f (s .hl) (shifts .hl); hh = pivot d f (s .hh) (shifts .hh) }
 
 -- one more where a pivot is below zero
 abbrev pub countedOn : Seven → Counts → Counts
