@@ -3,4 +3,3 @@ pub mod Ignored
 pub mod Stream
 pub mod StreamLaws
 pub mod Readings
-pub mod Examples
