@@ -22,7 +22,7 @@ use Rattle.arith.proofs.Laws.{truncate-sum-below, reads-back, half-unsigned}
 use Rattle.expansion.specs.Terms.{Usable, #175}
 use Rattle.expansion.specs.Sdmn.{sdmn}
 use Rattle.segv.specs.Families.{bothFamilies}
-use Rattle.segv.specs.Row.{Slices, slices, writtenRow, RowAnswer, answer, segvRow}
+use Rattle.segv.specs.Row.{Slices, slices, writtenRow, Numbered, answer, segvRow}
 use Rattle.disc.specs.declared.rswfo.Radial as Disc
 use Rattle.disc.specs.Rswfo.{rswfo}
 use Rattle.angular.specs.declared.aswfa.Pair as Angular
@@ -31,7 +31,6 @@ use Rattle.modes.specs.declared.answers.Answer.the-variants.{Pair, Quadr
 use Rattle.modes.specs.declared.checking.Mode.{Mode}
 use Rattle.modes.specs.declared.checking.Kind.{Kind}
 use Rattle.modes.specs.Refusals.{outOfRange, noParameter, refusalOf, rowRefusal, modeRefusal, hOf, entriesOf, #291, signOf, tooManyTerms, notFinite}
-use Rattle.modes.specs.Answers.{single}
 use Rattle.modes.specs.Radial.{radialRefusal, radialKinds, radialOf}
 use Rattle.modes.specs.Angular.{outside, angularRefusal, angularPair, angularOf}
 use Rattle.modes.specs.Coefficients.{coefficientsOf}
@@ -156,13 +155,37 @@ accepted x h =
       few = rw (k .1) (omega (arith, k .2));
     }
 
+-- a first refusal k leaves the number 0 only where k is 0; and so in an answer
+none : (k j : ℕ) → cond (eqb k 0) j k ≡ 0 → k ≡ 0
+none k j h = go (eqb k 0) refl
+  where
+    go : (t : Bool) → eqb k 0 ≡ t → k ≡ 0
+    go true e = eqb-true k 0 e
+    go false e = rw e at h
+
+none-of : {A : Type 0} (k : ℕ) (a : Numbered A) (x : A) → cond (eqb k 0) a (answer k x) .number ≡ 0 → k ≡ 0
+none-of k a x h = go (eqb k 0) refl
+  where
+    go : (t : Bool) → eqb k 0 ≡ t → k ≡ 0
+    go true e = eqb-true k 0 e
+    go false e = rw e at h
+
+-- so the mode of a row that is not refused is accepted, and that of a DLMF row
+pub row-mode : (kind : Kind) (x : Mode) (allowance : ℕ) (l : Slices) → rowOf kind x allowance l .number ≡ 0 → Accepted x
+unfolding rowOf
+row-mode kind x allowance l h = accepted x (none-of (rowRefusal x) _ l h)
+
+pub dlmf-mode : (kind : Kind) (x : Mode) (allowance : ℕ) (xs : List Float) → dlmfOf kind x allowance xs .number ≡ 0 → Accepted x
+unfolding dlmfOf
+dlmf-mode kind x allowance xs h = accepted x (none-of (rowRefusal x) _ xs h)
+
 -- ---- the row of a mode that is not refused
 module _ (kind : Kind) (x : Mode) (allowance : ℕ) (l : Slices) where
   pub zero-way : (y : Slices) → lt (x .c) #1e-10 ≡ true → y ≡ writtenRow (zeroAt (x .m)) (x .n - x .m + 1) l → answer 0 y ≡ rowIn kind x allowance l
   unfolding rowIn
   zero-way y h e = rw (h, e)
 
-  pub bisected-way : (a : RowAnswer) (s : Float) (k : ℕ) → lt (x .c) #1e-10 ≡ false → s ≡ signOf kind → k ≡ entriesOf x
+  pub bisected-way : (a : Numbered Slices) (s : Float) (k : ℕ) → lt (x .c) #1e-10 ≡ false → s ≡ signOf kind → k ≡ entriesOf x
       → a ≡ segvRow (bothFamilies (x .m) (x .n) (x .c ⊗ x .c ⊗ s) k allowance) (x .n - x .m + 1) l → a ≡ rowIn kind x allowance l
   unfolding rowIn
   bisected-way a s k t hs hk e = rw (t, ← hs, ← hk) e
@@ -173,7 +196,7 @@ module _ (kind : Kind) (x : Mode) (allowance : ℕ) (l : Slices) where
     unfolding rowOf
     early n = rw (← h, ne-eqb k 0 n)
 
-    pub late : (a : RowAnswer) → k ≡ 0 → tooShort x l ≡ false → a ≡ rowIn kind x allowance l → a ≡ rowOf kind x allowance l
+    pub late : (a : Numbered Slices) → k ≡ 0 → tooShort x l ≡ false → a ≡ rowIn kind x allowance l → a ≡ rowOf kind x allowance l
     unfolding rowOf
     late a z t e = rw (← h, z, t) e
 
@@ -188,47 +211,47 @@ long-enough x l a b c d = rw (lt-leb _ _ a, lt-leb _ _ b, lt-leb _ _ c, lt-leb _
 
 -- ---- DLMF's form
 module _ (kind : Kind) (x : Mode) (allowance : ℕ) (xs : List Float) (k : ℕ) (h : k ≡ rowRefusal x) where
-  pub dlmf-early : (k ≡ 0 → ⊥) → single k xs ≡ dlmfOf kind x allowance xs
+  pub dlmf-early : (k ≡ 0 → ⊥) → answer k xs ≡ dlmfOf kind x allowance xs
   unfolding dlmfOf
   dlmf-early n = rw (← h, ne-eqb k 0 n)
 
   module _ (z : k ≡ 0) where
-    pub dlmf-short : length xs ≤ x .n - x .m → single 9 xs ≡ dlmfOf kind x allowance xs
+    pub dlmf-short : length xs ≤ x .n - x .m → answer 9 xs ≡ dlmfOf kind x allowance xs
     unfolding dlmfOf
     dlmf-short l = rw (← h, z, le-leb (length xs) (x .n - x .m) l)
 
     module _ (l : x .n - x .m < length xs) (v : List Float) (s : List ℕ) (w u : List Float) (hv : v ≡ replicate 200 #0) (hs : s ≡ replicate 200 0)
-        (hw : w ≡ replicate 200 #0) (hu : u ≡ replicate 200 #0) (a : RowAnswer) (ha : a ≡ rowIn kind x allowance (slices v s w u)) where
+        (hw : w ≡ replicate 200 #0) (hu : u ≡ replicate 200 #0) (a : Numbered Slices) (ha : a ≡ rowIn kind x allowance (slices v s w u)) where
       in-blank : a ≡ rowIn kind x allowance blankSlices
       unfolding blankSlices
       in-blank = ha ∙ rw (hv, hs, hw, hu)
 
-      pub dlmf-refused : (a .number ≡ 0 → ⊥) → single (a .number) xs ≡ dlmfOf kind x allowance xs
+      pub dlmf-refused : (a .number ≡ 0 → ⊥) → answer (a .number) xs ≡ dlmfOf kind x allowance xs
       unfolding dlmfOf dlmfIn
       dlmf-refused n = rw (← h, z, lt-leb (length xs) (x .n - x .m) l, ← in-blank, ne-eqb (a .number) 0 n)
 
-      pub dlmf-done : (ys : List Float) → a .number ≡ 0 → ys ≡ lessened (a .after .values) (x .c ⊗ x .c) (x .n - x .m + 1) xs → single 0 ys ≡ dlmfOf kind x allowance xs
+      pub dlmf-done : (ys : List Float) → a .number ≡ 0 → ys ≡ lessened (a .after .values) (x .c ⊗ x .c) (x .n - x .m + 1) xs → answer 0 ys ≡ dlmfOf kind x allowance xs
       unfolding dlmfOf dlmfIn
       dlmf-done ys n e = rw (← h, z, lt-leb (length xs) (x .n - x .m) l, ← in-blank, n, e)
 
 -- ---- coefficients
 module _ (kind : Kind) (x : Mode) (cv : Float) (xs : List Float) (k : ℕ) (h : k ≡ modeRefusal x) where
-  pub coefficients-early : (k ≡ 0 → ⊥) → single k xs ≡ coefficientsOf kind x cv xs
+  pub coefficients-early : (k ≡ 0 → ⊥) → answer k xs ≡ coefficientsOf kind x cv xs
   unfolding coefficientsOf
   coefficients-early n = rw (← h, ne-eqb k 0 n)
 
   module _ (z : k ≡ 0) where
-    pub coefficients-value : notFinite cv ≡ true → single 7 xs ≡ coefficientsOf kind x cv xs
+    pub coefficients-value : notFinite cv ≡ true → answer 7 xs ≡ coefficientsOf kind x cv xs
     unfolding coefficientsOf
     coefficients-value v = rw (← h, z, v)
 
     module _ (v : notFinite cv ≡ false) where
-      pub coefficients-short : length xs < 200 → single 9 xs ≡ coefficientsOf kind x cv xs
+      pub coefficients-short : length xs < 200 → answer 9 xs ≡ coefficientsOf kind x cv xs
       unfolding coefficientsOf
       coefficients-short l = rw (← h, z, v, lt-ltb (length xs) 200 l)
 
       pub coefficients-done : (s : Float) (df ys : List Float) → 200 ≤ length xs → s ≡ signOf kind → df ≡ sdmn (x .m) (x .n) (x .c) cv s → ys ≡ df ++ drop 200 xs
-          → single 0 ys ≡ coefficientsOf kind x cv xs
+          → answer 0 ys ≡ coefficientsOf kind x cv xs
       unfolding coefficientsOf
       coefficients-done s df ys l hs hd hy = rw (← h, z, v, le-ltb (length xs) 200 l, hy, hd, hs)
 
@@ -270,11 +293,7 @@ module _ (mode : Mode) (cv x : Float) (k : ℕ) (h : k ≡ modeRefusal mode) whe
 -- a mode whose angular pair is not refused is usable
 pub angular-usable : (mode : Mode) (cv x : Float) → angularRefusal mode cv x ≡ 0 → modeRefusal mode ≡ 0
 unfolding angularRefusal
-angular-usable mode cv x h = go (modeRefusal mode) (eqb (modeRefusal mode) 0) refl h
-  where
-    go : (k : ℕ) (t : Bool) → eqb k 0 ≡ t → cond t (cond (notFinite cv) 7 (cond (outside x) 8 0)) k ≡ 0 → k ≡ 0
-    go k true e h = eqb-true k 0 e
-    go k false e h = h
+angular-usable mode cv x h = none (modeRefusal mode) _ h
 
 module _ (kind : Kind) (mode : Mode) (cv x : Float) (k : ℕ) (h : k ≡ angularRefusal mode cv x) where
   pub pair-refused : (k ≡ 0 → ⊥) → Refused k ≡ angularOf kind mode cv x
@@ -311,11 +330,7 @@ module _ (mode : Mode) (cv x : Float) (k : ℕ) (h : k ≡ modeRefusal mode) whe
 
 pub radial-usable : (mode : Mode) (cv x : Float) → radialRefusal mode cv x ≡ 0 → modeRefusal mode ≡ 0
 unfolding radialRefusal
-radial-usable mode cv x h = go (modeRefusal mode) (eqb (modeRefusal mode) 0) refl h
-  where
-    go : (k : ℕ) (t : Bool) → eqb k 0 ≡ t → cond t (cond (tooManyTerms mode) 6 (cond (notFinite cv) 7 (cond (not (eq x #0)) 8 0))) k ≡ 0 → k ≡ 0
-    go k true e h = eqb-true k 0 e
-    go k false e h = h
+radial-usable mode cv x h = none (modeRefusal mode) _ h
 
 module _ (mode : Mode) (cv x : Float) (k : ℕ) (h : k ≡ radialRefusal mode cv x) where
   pub kinds-refused : (k ≡ 0 → ⊥) → Refused k ≡ radialOf mode cv x

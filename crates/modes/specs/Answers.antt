@@ -1,9 +1,8 @@
 -- What a caller is answered. Definitions only.
 use Prim.Native.Nat.{ℕ}
 use mathlib.Core.Bool.{cond}
-use mathlib.Core.List.{List}
 use lib.Dec.{eqb}
-use lib.Ieee.{Float}
+use Rattle.segv.specs.Row.{Numbered}
 use Rattle.modes.specs.declared.answers.SliceAnswer.{SliceAnswer}
 use Rattle.modes.specs.declared.answers.SliceAnswer.the-variants.{Filled, Refused}
 
@@ -11,20 +10,10 @@ use Rattle.modes.specs.declared.answers.SliceAnswer.the-variants.{Filled
 unfoldable pub given : ℕ → SliceAnswer
 given k = cond (eqb k 0) Filled (Refused k)
 
--- ---- calls that fill one slice of doubles
-
--- a refusal's number, or 0 for none, and the slice afterwards
-pub record Single : Type 0 where
-  pub number : ℕ
-  pub after : List Float
-
-abbrev pub single : ℕ → List Float → Single
-single k xs = record { number = k; after = xs }
-
--- what a caller gets: the answer, and the slice afterwards
-pub record SliceOutcome : Type 0 where
+-- what a caller gets from a call that fills slices: the answer, and the slices afterwards
+pub record Outcome (A : Type 0) : Type 0 where
   pub answer : SliceAnswer
-  pub after : List Float
+  pub after : A
 
-abbrev pub sliceOutcome : Single → SliceOutcome
-sliceOutcome a = record { answer = given (a .number); after = a .after }
+abbrev pub outcome : {A : Type 0} → Numbered A → Outcome A
+outcome a = record { answer = given (a .number); after = a .after }

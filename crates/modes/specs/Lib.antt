@@ -5,6 +5,3 @@ pub mod Rows
 pub mod Coefficients
 pub mod Angular
 pub mod Radial
-pub mod Demand3
-pub mod RowLaws
-pub mod Edges

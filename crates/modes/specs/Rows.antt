@@ -8,11 +8,9 @@ use lib.Ieee.{Float, lt}
 use Rattle.arith.specs.Double.{_⊖_, _⊗_, dbl, at, #0, #1e-10}
 use Rattle.segv.specs.declared.bisection.Bracket.{Bracket}
 use Rattle.segv.specs.Families.{bothFamilies}
-use Rattle.segv.specs.Row.{Slices, slices, writtenRow, RowAnswer, answer, segvRow}
+use Rattle.segv.specs.Row.{Slices, slices, writtenRow, Numbered, answer, segvRow}
 use Rattle.modes.specs.declared.checking.Kind.{Kind}
 use Rattle.modes.specs.declared.checking.Mode.{Mode}
-use Rattle.modes.specs.declared.answers.SliceAnswer.{SliceAnswer}
-use Rattle.modes.specs.Answers.{given, Single, single}
 use Rattle.modes.specs.Refusals.{signOf, entriesOf, rowRefusal}
 
 -- ---- the row
@@ -27,24 +25,16 @@ unfoldable pub zeroAt : ℕ → ℕ → Bracket
 zeroAt m j = let v = dbl (m + j) ⊗ dbl (m + j + 1) in record { value = v; lower = v; upper = v; steps = 0 }
 
 -- where c < 1e-10 the zero-parameter row, and else the bisected one, with cs = c × c × kd and K entries
-unfoldable pub rowIn : Kind → Mode → ℕ → Slices → RowAnswer
+unfoldable pub rowIn : Kind → Mode → ℕ → Slices → Numbered Slices
 rowIn kind x allowance l =
     cond (lt (x .c) #1e-10) (answer 0 (writtenRow (zeroAt (x .m)) (x .n - x .m + 1) l))
     (segvRow (bothFamilies (x .m) (x .n) (x .c ⊗ x .c ⊗ signOf kind) (entriesOf x) allowance) (x .n - x .m + 1) l)
 
 -- refused 4, 5, 6 or 9, the slices stay as they were
-unfoldable pub rowOf : Kind → Mode → ℕ → Slices → RowAnswer
+unfoldable pub rowOf : Kind → Mode → ℕ → Slices → Numbered Slices
 rowOf kind x allowance l =
     let r = cond (tooShort x l) (answer 9 l) (rowIn kind x allowance l) in
     cond (eqb (rowRefusal x) 0) r (answer (rowRefusal x) l)
-
--- what a caller gets: the answer, and the slices afterwards
-pub record RowOutcome : Type 0 where
-  pub answer : SliceAnswer
-  pub after : Slices
-
-abbrev pub rowOutcome : RowAnswer → RowOutcome
-rowOutcome a = record { answer = given (a .number); after = a .after }
 
 -- ---- DLMF's form
 
@@ -58,10 +48,10 @@ lessened values x zero xs = xs
 lessened values x (suc n) xs = set (lessened values x n xs) n (at values n ⊖ x)
 
 -- from the answer of the row: each value less c × c
-unfoldable pub dlmfIn : Mode → RowAnswer → List Float → Single
-dlmfIn x a xs = cond (eqb (a .number) 0) (single 0 (lessened (a .after .values) (x .c ⊗ x .c) (x .n - x .m + 1) xs)) (single (a .number) xs)
+unfoldable pub dlmfIn : Mode → Numbered Slices → List Float → Numbered (List Float)
+dlmfIn x a xs = cond (eqb (a .number) 0) (answer 0 (lessened (a .after .values) (x .c ⊗ x .c) (x .n - x .m + 1) xs)) (answer (a .number) xs)
 
-unfoldable pub dlmfOf : Kind → Mode → ℕ → List Float → Single
+unfoldable pub dlmfOf : Kind → Mode → ℕ → List Float → Numbered (List Float)
 dlmfOf kind x allowance xs =
-    let r = cond (leb (length xs) (x .n - x .m)) (single 9 xs) (dlmfIn x (rowIn kind x allowance blankSlices) xs) in
-    cond (eqb (rowRefusal x) 0) r (single (rowRefusal x) xs)
+    let r = cond (leb (length xs) (x .n - x .m)) (answer 9 xs) (dlmfIn x (rowIn kind x allowance blankSlices) xs) in
+    cond (eqb (rowRefusal x) 0) r (answer (rowRefusal x) xs)

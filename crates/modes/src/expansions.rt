@@ -3,7 +3,8 @@ ghost use mathlib.Core.Path.{_≡_};
 ghost use Prim.Native.Nat.{_≤_};
 ghost use lib.ListN.{length, drop};
 ghost use mathlib.Core.List.{_++_};
-ghost use Rattle.modes.specs.Answers.{single, sliceOutcome};
+ghost use Rattle.segv.specs.Row.{answer};
+ghost use Rattle.modes.specs.Answers.{outcome};
 ghost use Rattle.modes.specs.Coefficients.{coefficientsOf};
 use super::answers::SliceAnswer;
 use super::checking::Kind;
@@ -23,7 +24,7 @@ fn copy(df: &[f64; 200], out: &mut [f64])
 
 // The refusal's number, or 0 with the slice filled.
 fn coefficients_number(kind: Kind, mode: Mode, cv: f64, out: &mut [f64]) -> u8
-    ensures { λ r. ⌜ single r (now (out .exit)) ≡ coefficientsOf kind mode cv (now (out .entry)) ⌝ }
+    ensures { λ r. ⌜ answer r (now (out .exit)) ≡ coefficientsOf kind mode cv (now (out .entry)) ⌝ }
 {
     let refused = mode.mode_refusal();
     if refused != 0 {
@@ -44,7 +45,7 @@ fn coefficients_number(kind: Kind, mode: Mode, cv: f64, out: &mut [f64]) -> u8
 // The expansion coefficients for a characteristic value cv, into the first 200 places. Refusals 4, 5,
 // 6, 7 and 9.
 pub fn coefficients(kind: Kind, mode: Mode, cv: f64, out: &mut [f64]) -> SliceAnswer
-    ensures { λ r. ⌜ record { answer = r; after = now (out .exit) } ≡ sliceOutcome (coefficientsOf kind mode cv (now (out .entry))) ⌝ }
+    ensures { λ r. ⌜ record { answer = r; after = now (out .exit) } ≡ outcome (coefficientsOf kind mode cv (now (out .entry))) ⌝ }
 {
     super::answers::slice_answer(coefficients_number(kind, mode, cv, out))
 }

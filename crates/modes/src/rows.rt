@@ -5,8 +5,8 @@ ghost use lib.ListN.{length, replicate};
 ghost use Rattle.arith.specs.Double.{#0};
 ghost use Rattle.segv.specs.Row.{slices, writtenRow, answer};
 ghost use Rattle.modes.specs.Refusals.{rowRefusal};
-ghost use Rattle.modes.specs.Answers.{single, sliceOutcome};
-ghost use Rattle.modes.specs.Rows.{zeroAt, rowIn, rowOf, lessened, dlmfOf, rowOutcome};
+ghost use Rattle.modes.specs.Answers.{outcome};
+ghost use Rattle.modes.specs.Rows.{zeroAt, rowIn, rowOf, lessened, dlmfOf};
 use super::answers::SliceAnswer;
 use super::checking::Kind;
 use super::checking::Mode;
@@ -108,7 +108,7 @@ pub fn row(
     uppers: &mut [f64],
 ) -> SliceAnswer
     ensures { λ r. ⌜ record { answer = r; after = slices (now (values .exit)) (now (steps .exit)) (now (lowers .exit)) (now (uppers .exit)) }
-        ≡ rowOutcome (rowOf kind mode allowance (slices (now (values .entry)) (now (steps .entry)) (now (lowers .entry)) (now (uppers .entry)))) ⌝ }
+        ≡ outcome (rowOf kind mode allowance (slices (now (values .entry)) (now (steps .entry)) (now (lowers .entry)) (now (uppers .entry)))) ⌝ }
 {
     super::answers::slice_answer(row_number(kind, mode, allowance, values, steps, lowers, uppers))
 }
@@ -140,7 +140,7 @@ fn lessen(values: &[f64; 200], x: f64, n: usize, out: &mut [f64])
 
 // The refusal's number, or 0 with the slice filled.
 fn dlmf_number(kind: Kind, mode: Mode, allowance: u16, out: &mut [f64]) -> u8
-    ensures { λ r. ⌜ single r (now (out .exit)) ≡ dlmfOf kind mode allowance (now (out .entry)) ⌝ }
+    ensures { λ r. ⌜ answer r (now (out .exit)) ≡ dlmfOf kind mode allowance (now (out .entry)) ⌝ }
 {
     let refused = mode.row_refusal();
     if refused != 0 {
@@ -172,7 +172,7 @@ fn dlmf_number(kind: Kind, mode: Mode, allowance: u16, out: &mut [f64]) -> u8
 
 // The row in DLMF's form: each value less c * c. Refusals 4, 5, 6, 9 and 10.
 pub fn dlmf_row(kind: Kind, mode: Mode, allowance: u16, values: &mut [f64]) -> SliceAnswer
-    ensures { λ r. ⌜ record { answer = r; after = now (values .exit) } ≡ sliceOutcome (dlmfOf kind mode allowance (now (values .entry))) ⌝ }
+    ensures { λ r. ⌜ record { answer = r; after = now (values .exit) } ≡ outcome (dlmfOf kind mode allowance (now (values .entry))) ⌝ }
 {
     super::answers::slice_answer(dlmf_number(kind, mode, allowance, values))
 }

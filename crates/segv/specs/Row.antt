@@ -41,14 +41,14 @@ writtenRow bracket n x =
       uppers = written (λ b. b .upper) bracket n (x .uppers);
     }
 
--- a refusal's number, or 0 for none, and the slices afterwards
-pub record RowAnswer : Type 0 where
+-- a refusal's number, or 0 for none, and the caller's places afterwards: one slice, or several, or single doubles
+pub record Numbered (A : Type 0) : Type 0 where
   pub number : ℕ
-  pub after : Slices
+  pub after : A
 
-abbrev pub answer : ℕ → Slices → RowAnswer
+abbrev pub answer : {A : Type 0} → ℕ → A → Numbered A
 answer k x = record { number = k; after = x }
 
 -- refused 10, the slices stay as they were
-unfoldable pub segvRow : Families → ℕ → Slices → RowAnswer
+unfoldable pub segvRow : Families → ℕ → Slices → Numbered Slices
 segvRow r n x = cond (eitherStopped r) (answer 10 x) (answer 0 (writtenRow (modeAt r) n x))

@@ -5,11 +5,11 @@ ghost use Prim.Native.Nat.{ℕ};
 ghost use Rattle.segv.specs.Row.{slices, answer};
 ghost use Rattle.modes.specs.declared.checking.Kind.the-variants.{Prolate, Oblate};
 ghost use Rattle.modes.specs.Rows.{rowOf, dlmfOf};
-ghost use Rattle.modes.specs.Answers.{single, given};
+ghost use Rattle.modes.specs.Answers.{given};
 ghost use Rattle.modes.specs.Coefficients.{coefficientsOf};
 ghost use Rattle.modes.specs.Angular.{angularOf};
 ghost use Rattle.modes.specs.Radial.{radialOf};
-ghost use Rattle.spheroidal_c.specs.Places.{twoPlaces, pairPut, fourPlaces, quadruplePut};
+ghost use Rattle.spheroidal_c.specs.Places.{pairPut, quadruplePut};
 use modes::Answer;
 use modes::Kind;
 use modes::Mode;
@@ -41,22 +41,22 @@ fn row(
 }
 
 fn dlmf_row(kind: Kind, mode: Mode, allowance: u16, values: &mut [f64]) -> u8
-    ensures { λ r. ⌜ single r (now (values .exit)) ≡ dlmfOf kind mode allowance (now (values .entry)) ⌝ }
+    ensures { λ r. ⌜ answer r (now (values .exit)) ≡ dlmfOf kind mode allowance (now (values .entry)) ⌝ }
 {
     number(modes::dlmf_row(kind, mode, allowance, values))
 }
 
 fn coefficients(kind: Kind, mode: Mode, cv: f64, values: &mut [f64]) -> u8
-    ensures { λ r. ⌜ single r (now (values .exit)) ≡ coefficientsOf kind mode cv (now (values .entry)) ⌝ }
+    ensures { λ r. ⌜ answer r (now (values .exit)) ≡ coefficientsOf kind mode cv (now (values .entry)) ⌝ }
 {
     number(modes::coefficients(kind, mode, cv, values))
 }
 
 // Writes a pair into its places, or nothing for a refusal. The library never answers a call for a pair otherwise.
-fn put_pair(answer: Answer, value: &mut f64, derivative: &mut f64) -> u8
-    ensures { λ r. ⌜ twoPlaces r (now (value .exit)) (now (derivative .exit)) ≡ pairPut answer (now (value .entry)) (now (derivative .entry)) ⌝ }
+fn put_pair(outcome: Answer, value: &mut f64, derivative: &mut f64) -> u8
+    ensures { λ r. ⌜ answer r (now (value .exit), now (derivative .exit)) ≡ pairPut outcome (now (value .entry), now (derivative .entry)) ⌝ }
 {
-    match answer {
+    match outcome {
         Answer::Pair(v, d) => {
             *value = v;
             *derivative = d;
@@ -69,16 +69,16 @@ fn put_pair(answer: Answer, value: &mut f64, derivative: &mut f64) -> u8
 
 // The same for both radial kinds.
 fn put_quadruple(
-    answer: Answer,
+    outcome: Answer,
     value1: &mut f64,
     derivative1: &mut f64,
     value2: &mut f64,
     derivative2: &mut f64,
 ) -> u8
-    ensures { λ r. ⌜ fourPlaces r (now (value1 .exit)) (now (derivative1 .exit)) (now (value2 .exit)) (now (derivative2 .exit))
-        ≡ quadruplePut answer (now (value1 .entry)) (now (derivative1 .entry)) (now (value2 .entry)) (now (derivative2 .entry)) ⌝ }
+    ensures { λ r. ⌜ answer r (now (value1 .exit), now (derivative1 .exit), now (value2 .exit), now (derivative2 .exit))
+        ≡ quadruplePut outcome (now (value1 .entry), now (derivative1 .entry), now (value2 .entry), now (derivative2 .entry)) ⌝ }
 {
-    match answer {
+    match outcome {
         Answer::Pair(_, _) => 0,
         Answer::Quadruple(v1, d1, v2, d2) => {
             *value1 = v1;
@@ -92,8 +92,8 @@ fn put_quadruple(
 }
 
 fn angular(kind: Kind, mode: Mode, cv: f64, x: f64, value: &mut f64, derivative: &mut f64) -> u8
-    ensures { λ r. ⌜ twoPlaces r (now (value .exit)) (now (derivative .exit))
-        ≡ pairPut (angularOf kind mode cv x) (now (value .entry)) (now (derivative .entry)) ⌝ }
+    ensures { λ r. ⌜ answer r (now (value .exit), now (derivative .exit))
+        ≡ pairPut (angularOf kind mode cv x) (now (value .entry), now (derivative .entry)) ⌝ }
 {
     put_pair(modes::angular(kind, mode, cv, x), value, derivative)
 }
@@ -158,7 +158,7 @@ pub extern "C" fn spheroidal_prolate_dlmf_row(
     allowance: u16,
     values: &mut [f64],
 ) -> u8
-    ensures { λ r. ⌜ single r (now (values .exit)) ≡ dlmfOf Prolate (record { m = m; n = n; c = c }) allowance (now (values .entry)) ⌝ }
+    ensures { λ r. ⌜ answer r (now (values .exit)) ≡ dlmfOf Prolate (record { m = m; n = n; c = c }) allowance (now (values .entry)) ⌝ }
 {
     dlmf_row(Kind::Prolate, Mode { m, n, c }, allowance, values)
 }
@@ -171,7 +171,7 @@ pub extern "C" fn spheroidal_oblate_dlmf_row(
     allowance: u16,
     values: &mut [f64],
 ) -> u8
-    ensures { λ r. ⌜ single r (now (values .exit)) ≡ dlmfOf Oblate (record { m = m; n = n; c = c }) allowance (now (values .entry)) ⌝ }
+    ensures { λ r. ⌜ answer r (now (values .exit)) ≡ dlmfOf Oblate (record { m = m; n = n; c = c }) allowance (now (values .entry)) ⌝ }
 {
     dlmf_row(Kind::Oblate, Mode { m, n, c }, allowance, values)
 }
@@ -185,7 +185,7 @@ pub extern "C" fn spheroidal_prolate_coefficients(
     cv: f64,
     values: &mut [f64],
 ) -> u8
-    ensures { λ r. ⌜ single r (now (values .exit)) ≡ coefficientsOf Prolate (record { m = m; n = n; c = c }) cv (now (values .entry)) ⌝ }
+    ensures { λ r. ⌜ answer r (now (values .exit)) ≡ coefficientsOf Prolate (record { m = m; n = n; c = c }) cv (now (values .entry)) ⌝ }
 {
     coefficients(Kind::Prolate, Mode { m, n, c }, cv, values)
 }
@@ -198,7 +198,7 @@ pub extern "C" fn spheroidal_oblate_coefficients(
     cv: f64,
     values: &mut [f64],
 ) -> u8
-    ensures { λ r. ⌜ single r (now (values .exit)) ≡ coefficientsOf Oblate (record { m = m; n = n; c = c }) cv (now (values .entry)) ⌝ }
+    ensures { λ r. ⌜ answer r (now (values .exit)) ≡ coefficientsOf Oblate (record { m = m; n = n; c = c }) cv (now (values .entry)) ⌝ }
 {
     coefficients(Kind::Oblate, Mode { m, n, c }, cv, values)
 }
@@ -214,8 +214,8 @@ pub extern "C" fn spheroidal_prolate_angular(
     value: &mut f64,
     derivative: &mut f64,
 ) -> u8
-    ensures { λ r. ⌜ twoPlaces r (now (value .exit)) (now (derivative .exit))
-        ≡ pairPut (angularOf Prolate (record { m = m; n = n; c = c }) cv x) (now (value .entry)) (now (derivative .entry)) ⌝ }
+    ensures { λ r. ⌜ answer r (now (value .exit), now (derivative .exit))
+        ≡ pairPut (angularOf Prolate (record { m = m; n = n; c = c }) cv x) (now (value .entry), now (derivative .entry)) ⌝ }
 {
     angular(Kind::Prolate, Mode { m, n, c }, cv, x, value, derivative)
 }
@@ -230,8 +230,8 @@ pub extern "C" fn spheroidal_oblate_angular(
     value: &mut f64,
     derivative: &mut f64,
 ) -> u8
-    ensures { λ r. ⌜ twoPlaces r (now (value .exit)) (now (derivative .exit))
-        ≡ pairPut (angularOf Oblate (record { m = m; n = n; c = c }) cv x) (now (value .entry)) (now (derivative .entry)) ⌝ }
+    ensures { λ r. ⌜ answer r (now (value .exit), now (derivative .exit))
+        ≡ pairPut (angularOf Oblate (record { m = m; n = n; c = c }) cv x) (now (value .entry), now (derivative .entry)) ⌝ }
 {
     angular(Kind::Oblate, Mode { m, n, c }, cv, x, value, derivative)
 }
@@ -249,8 +249,8 @@ pub extern "C" fn spheroidal_oblate_radial(
     value2: &mut f64,
     derivative2: &mut f64,
 ) -> u8
-    ensures { λ r. ⌜ fourPlaces r (now (value1 .exit)) (now (derivative1 .exit)) (now (value2 .exit)) (now (derivative2 .exit))
-        ≡ quadruplePut (radialOf (record { m = m; n = n; c = c }) cv x) (now (value1 .entry)) (now (derivative1 .entry)) (now (value2 .entry)) (now (derivative2 .entry)) ⌝ }
+    ensures { λ r. ⌜ answer r (now (value1 .exit), now (derivative1 .exit), now (value2 .exit), now (derivative2 .exit))
+        ≡ quadruplePut (radialOf (record { m = m; n = n; c = c }) cv x) (now (value1 .entry), now (derivative1 .entry), now (value2 .entry), now (derivative2 .entry)) ⌝ }
 {
     put_quadruple(
         modes::radial(Mode { m, n, c }, cv, x),

@@ -18,12 +18,10 @@ use Rattle.modes.specs.declared.checking.Kind.{Kind}
 use Rattle.modes.specs.declared.checking.Mode.{Mode}
 use Rattle.modes.specs.declared.answers.SliceAnswer.{SliceAnswer}
 use Rattle.modes.specs.declared.answers.SliceAnswer.the-variants.{Filled, Refused}
-use Rattle.modes.specs.Answers.{given, sliceOutcome}
-use Rattle.modes.specs.Rows.{rowOf, blankSlices, rowOutcome, dlmfOf}
-use Rattle.modes.proofs.Laws.{Accepted}
+use Rattle.modes.specs.Answers.{given, outcome}
+use Rattle.modes.specs.Rows.{rowOf, blankSlices, dlmfOf}
+use Rattle.modes.proofs.Laws.{Accepted, row-mode, dlmf-mode}
 use Rattle.modes.proofs.Given.{given-filled, given-refused}
-use Rattle.modes.proofs.Filled.{filled}
-use Rattle.modes.proofs.Demand3.{dlmf-accepted}
 use Rattle.stream.specs.Response.{vLines, dLines, rowText, dlmfText}
 
 -- no text at all
@@ -36,7 +34,7 @@ put-same {a} {b} {f} {t} e p = subst (Put a b f t) e p
 -- ---- rows
 module _ (index : ℕ) (kind : Kind) (x : Mode) (allowance : ℕ) (v : List Float) (s : List ℕ) (w u : List Float)
     (hv : v ≡ replicate 200 #0) (hs : s ≡ replicate 200 0) (hw : w ≡ replicate 200 #0) (hu : u ≡ replicate 200 #0)
-    (r : SliceAnswer) (after : Slices) (e : record { answer = r; after = after } ≡ rowOutcome (rowOf kind x allowance (slices v s w u))) where
+    (r : SliceAnswer) (after : Slices) (e : record { answer = r; after = after } ≡ outcome (rowOf kind x allowance (slices v s w u))) where
   blank-is : slices v s w u ≡ blankSlices
   unfolding blankSlices
   blank-is = rw (hv, hs, hw, hu)
@@ -51,7 +49,7 @@ module _ (index : ℕ) (kind : Kind) (x : Mode) (allowance : ℕ) (v : List Floa
   row-number f = given-filled _ (sym f ∙ answer-is)
 
   pub row-accepted : r ≡ Filled → Accepted x
-  row-accepted f = filled kind x allowance blankSlices (eqb-true _ 0 (row-number f)) .range
+  row-accepted f = row-mode kind x allowance blankSlices (eqb-true _ 0 (row-number f))
 
   pub row-filled : r ≡ Filled → vLines index (x .m) after (x .n - x .m + 1) ≡ rowText index kind x allowance
   unfolding rowText
@@ -63,7 +61,7 @@ module _ (index : ℕ) (kind : Kind) (x : Mode) (allowance : ℕ) (v : List Floa
 
 -- ---- DLMF rows
 module _ (index : ℕ) (kind : Kind) (x : Mode) (allowance : ℕ) (v : List Float) (hv : v ≡ replicate 200 #0)
-    (r : SliceAnswer) (after : List Float) (e : record { answer = r; after = after } ≡ sliceOutcome (dlmfOf kind x allowance v)) where
+    (r : SliceAnswer) (after : List Float) (e : record { answer = r; after = after } ≡ outcome (dlmfOf kind x allowance v)) where
   dlmf-answer-is : r ≡ given (dlmfOf kind x allowance (replicate 200 #0) .number)
   dlmf-answer-is = ap (λ o. o .answer) e ∙ ap (λ (l : List Float). given (dlmfOf kind x allowance l .number)) hv
 
@@ -74,7 +72,7 @@ module _ (index : ℕ) (kind : Kind) (x : Mode) (allowance : ℕ) (v : List Floa
   dlmf-number f = given-filled _ (sym f ∙ dlmf-answer-is)
 
   pub dlmf-row-accepted : r ≡ Filled → Accepted x
-  dlmf-row-accepted f = dlmf-accepted kind x allowance (replicate 200 #0) (eqb-true _ 0 (dlmf-number f))
+  dlmf-row-accepted f = dlmf-mode kind x allowance (replicate 200 #0) (eqb-true _ 0 (dlmf-number f))
 
   pub dlmf-filled : r ≡ Filled → dLines index (x .m) after (x .n - x .m + 1) ≡ dlmfText index kind x allowance
   unfolding dlmfText

@@ -4,4 +4,3 @@ pub mod Stream
 pub mod Inside
 pub mod StreamLaws
 pub mod Readings
-pub mod Examples

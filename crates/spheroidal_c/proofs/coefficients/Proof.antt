@@ -14,7 +14,7 @@ same-length : tie.Need-same-length
 same-length c = search needs
 
 returns : tie.Need-returns
-returns c = laws.single-is _ _ _ _ (c .before .before .before .coefficients .ensures) (c .number .ensures)
+returns c = laws.numbered-is _ _ _ _ (c .before .before .before .coefficients .ensures) (c .number .ensures)
 
 pub coefficients-spec : {M : Type 1} → statement M
 coefficients-spec = tie.close (tie.spec coefficients-requires number-requires same-length returns)

@@ -23,7 +23,7 @@ same-length-4 : tie.Need-same-length-4
 same-length-4 c = search needs
 
 returns : tie.Need-returns
-returns c = laws.row-is _ _ _ _ (c .before .before .before .before .before .before .before .before .before .row .ensures) (c .number .ensures)
+returns c = laws.numbered-is _ _ _ _ (c .before .before .before .before .before .before .before .before .before .row .ensures) (c .number .ensures)
 
 pub row-spec : {M : Type 1} → statement M
 row-spec =

@@ -1,7 +1,7 @@
 -- `modes::expansions::coefficients` meets its contract: the answer has the number that `coefficients_number` gives. Assumes nothing.
 use borrow.Author.Needs.{needs}
 use mathlib.Core.Path.{ap}
-use Rattle.modes.specs.Answers.{sliceOutcome}
+use Rattle.modes.specs.Answers.{outcome}
 use Rattle.modes.proofs.expansions.coefficients.Statement.{statement}
 use Rattle.modes.proofs.expansions.coefficients.Tie as tie
 
@@ -15,7 +15,7 @@ same-length : tie.Need-same-length
 same-length c = search needs
 
 returns : tie.Need-returns
-returns c = rw (c .slice-answer .ensures) (ap sliceOutcome (c .before .before .before .coefficients-number .ensures))
+returns c = rw (c .slice-answer .ensures) (ap outcome (c .before .before .before .coefficients-number .ensures))
 
 pub coefficients-spec : {M : Type 1} → statement M
 coefficients-spec =

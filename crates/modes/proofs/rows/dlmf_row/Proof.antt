@@ -1,6 +1,6 @@
 -- `modes::rows::dlmf_row` meets its contract: the answer has the number that `dlmf_number` gives. Assumes nothing.
 use mathlib.Core.Path.{ap}
-use Rattle.modes.specs.Answers.{sliceOutcome}
+use Rattle.modes.specs.Answers.{outcome}
 use borrow.Author.Needs.{needs}
 use Rattle.modes.proofs.rows.dlmf_row.Statement.{statement}
 use Rattle.modes.proofs.rows.dlmf_row.Tie as tie
@@ -15,7 +15,7 @@ same-length : tie.Need-same-length
 same-length c = search needs
 
 returns : tie.Need-returns
-returns c = rw (c .slice-answer .ensures) (ap sliceOutcome (c .before .before .before .dlmf-number .ensures))
+returns c = rw (c .slice-answer .ensures) (ap outcome (c .before .before .before .dlmf-number .ensures))
 
 pub dlmf-row-spec : {M : Type 1} → statement M
 dlmf-row-spec = tie.close (tie.spec dlmf-number-requires slice-answer-requires same-length returns)

@@ -1,6 +1,6 @@
 -- `modes::rows::row` meets its contract: the answer has the number that `row_number` gives. Assumes nothing.
 use mathlib.Core.Path.{ap}
-use Rattle.modes.specs.Rows.{rowOutcome}
+use Rattle.modes.specs.Answers.{outcome}
 use borrow.Author.Needs.{needs}
 use Rattle.modes.proofs.rows.row.Statement.{statement}
 use Rattle.modes.proofs.rows.row.Tie as tie
@@ -24,7 +24,7 @@ same-length-4 : tie.Need-same-length-4
 same-length-4 c = search needs
 
 returns : tie.Need-returns
-returns c = rw (c .slice-answer .ensures) (ap rowOutcome (c .before .before .before .before .before .before .before .before .before .row-number .ensures))
+returns c = rw (c .slice-answer .ensures) (ap outcome (c .before .before .before .before .before .before .before .before .before .row-number .ensures))
 
 pub row-spec : {M : Type 1} → statement M
 row-spec =

@@ -15,12 +15,12 @@ use Rattle.arith.proofs.Flags.{not-left}
 use Rattle.segv.specs.declared.bisection.Bracket.{Bracket}
 use Rattle.segv.specs.Families.{Families, bothFamilies, eitherStopped}
 use Rattle.segv.specs.Row.{Slices, written, writtenRow, answer, modeAt, segvRow}
 use Rattle.modes.specs.declared.checking.Mode.{Mode}
 use Rattle.modes.specs.declared.checking.Kind.{Kind}
 use Rattle.modes.specs.Refusals.{rowRefusal, signOf, entriesOf}
 use Rattle.modes.specs.Rows.{rowOf, rowIn, tooShort, zeroAt}
-use Rattle.modes.specs.Demand3.{handed}
+use Rattle.demands.specs.Demand3.{handed}
 use Rattle.modes.proofs.Laws.{Accepted, accepted, neither}
 
 -- ---- what is written
 module _ {A : Type 0} (field : Bracket → A) (bracket : ℕ → Bracket) (xs : List A) (d : A) where

@@ -9,12 +9,12 @@ use Rattle.arith.proofs.Laws.{dbl-product}
 use Rattle.segv.specs.Families.{eitherStopped}
 use Rattle.segv.specs.Row.{Slices}
 use Rattle.segv.proofs.Allowance.{families-more}
 use Rattle.modes.specs.declared.checking.Mode.{Mode}
 use Rattle.modes.specs.declared.checking.Kind.{Kind}
 use Rattle.modes.specs.Refusals.{signOf, entriesOf}
 use Rattle.modes.specs.Rows.{rowOf, rowIn, zeroAt}
-use Rattle.modes.specs.RowLaws.{dlmfAtZero, ZeroParameter, MoreAllowance}
-use Rattle.modes.proofs.Filled.{bracketAt, filled, long-all, handed-at}
+use Rattle.demands.specs.RowLaws.{dlmfAtZero, ZeroParameter, MoreAllowance}
+use Rattle.demands.proofs.Filled.{bracketAt, filled, long-all, handed-at}
 
 zero-is : (m j : ℕ) → m ≤ 199 → j ≤ 199 → let v = dbl (dlmfAtZero (m + j)) in zeroAt m j ≡ record { value = v; lower = v; upper = v; steps = 0 }
 unfolding zeroAt
@@ -26,7 +26,7 @@ zero-parameter kind x allowance l h z j hj =
     let r = g .range in
     rw (g .is, handed-at x (bracketAt kind x allowance) l (long-all x l (g .long)) j hj, z) (zero-is (x .m) j (r .order) (omega arith))
 
-row-in-more : (kind : Kind) (x : Mode) (a b : ℕ) (l : Slices) → a ≤ b → (lt (x .c) #1e-10 ≡ false → eitherStopped (Rattle.modes.proofs.Filled.both kind x a) ≡ false) → rowIn kind x b l ≡ rowIn kind x a l
+row-in-more : (kind : Kind) (x : Mode) (a b : ℕ) (l : Slices) → a ≤ b → (lt (x .c) #1e-10 ≡ false → eitherStopped (Rattle.demands.proofs.Filled.both kind x a) ≡ false) → rowIn kind x b l ≡ rowIn kind x a l
 unfolding rowIn
 row-in-more kind x a b l h k = go (lt (x .c) #1e-10) refl
   where

@@ -13,13 +13,13 @@ use lib.Seq.{getD-set-same, getD-set-other}
 use Rattle.arith.specs.Double.{_⊖_, _⊗_, at, #0}
 use Rattle.segv.specs.declared.bisection.Bracket.{Bracket}
 use Rattle.segv.proofs.Sound.{row-sound}
 use Rattle.modes.specs.declared.checking.Mode.{Mode}
 use Rattle.modes.specs.declared.checking.Kind.{Kind}
 use Rattle.modes.specs.Refusals.{rowRefusal, signOf, entriesOf}
 use Rattle.modes.specs.Rows.{rowIn, blankSlices, lessened, dlmfIn, dlmfOf}
-use Rattle.modes.specs.Demand3.{Demand3Rows, Demand3Dlmf}
+use Rattle.demands.specs.Demand3.{Demand3Rows, Demand3Dlmf}
 use Rattle.modes.proofs.Laws.{Accepted, accepted}
-use Rattle.modes.proofs.Filled.{bracketAt, Given, given-in, filled, filled-of, Long, long-all, handed-at}
+use Rattle.demands.proofs.Filled.{bracketAt, Given, given-in, filled, filled-of, Long, long-all, handed-at}
 
 pub demand-3-rows : Demand3Rows
 demand-3-rows kind x allowance l h z j hj =

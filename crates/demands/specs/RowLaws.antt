@@ -5,10 +5,10 @@ use mathlib.Core.Bool.{true}
 use lib.Ieee.{lt}
 use Rattle.arith.specs.Double.{dbl, #1e-10}
 use Rattle.segv.specs.Row.{Slices}
 use Rattle.modes.specs.declared.checking.Kind.{Kind}
 use Rattle.modes.specs.declared.checking.Mode.{Mode}
 use Rattle.modes.specs.Rows.{rowOf}
-use Rattle.modes.specs.Demand3.{handed}
+use Rattle.demands.specs.Demand3.{handed}
 
 -- DLMF 30.3: at parameter zero the eigenvalue of degree n is n(n + 1), whatever the order
 abbrev pub dlmfAtZero : ℕ → ℕ

@@ -1,22 +1,11 @@
--- Worked examples of the definitions, each table with one theorem over it.
-use mathlib.Core.Path.{_≡_, refl}
+-- Document 01's example stream and others, each with its lines, and calls of `stream::answer_some` with what they answer. `proofs/Streams.antt` has one theorem over each table.
 use mathlib.Core.Bool.{true, false}
-use mathlib.Core.List.{List, [], _∷_, _++_, map}
+use mathlib.Core.List.{List, [], _∷_, _++_}
 use Prim.Native.Nat.{ℕ}
 use Prim.Native.String.{String}
-use lib.Ieee.{ofBits}
 use lib.ListN.{replicate}
-use Rattle.records.specs.Record.{numberAt, nextAt}
-use Rattle.records.specs.Text.{ascii, digit, decimalIn, hexadecimal}
-use Rattle.segv.specs.Row.{written, writtenRow, segvRow}
-use Rattle.modes.specs.Operations.{operationOf}
-use Rattle.angular.specs.Examples.{computed}
-use Rattle.modes.specs.Refusals.{signOf, hOf, outOfRange, noParameter, refusalOf, notFinite}
-use Rattle.modes.specs.Rows.{tooShort, zeroAt, rowIn, rowOf, blankSlices, lessened, dlmfIn, dlmfOf}
-use Rattle.modes.specs.Angular.{outside, angularRefusal, angularPair, angularOf}
-use Rattle.stream.specs.Response.{vLines, dLines, rowText, dlmfText, answerText, textOf, responseTo}
-use Rattle.stream.specs.Stream.{linesIn, linesOf}
-use Rattle.stream.specs.Inside.Calls.{Answered, answeredIn, answered}
+use Rattle.records.specs.Text.{ascii}
+use Rattle.stream.specs.Inside.Calls.{Answered}
 
 -- a record with this operation, n 2, and all else zero
 abbrev pub asks : ℕ → List ℕ
@@ -40,10 +29,6 @@ streams =
     (asks 8 ++ 0x57 ∷ 0x53 ∷ replicate 31 0 ++ asks 1, "R 0 3\nR 1 2\n") ∷
     []
 
-pub streams-right : map (λ (row : List ℕ × String). linesOf (row .0)) streams ≡ map (λ (row : List ℕ × String). ascii (row .1)) streams
-unfolding computed linesIn responseTo textOf rowText dlmfText answerText vLines dLines nextAt numberAt decimalIn hexadecimal digit operationOf dlmfOf dlmfIn lessened rowOf rowIn tooShort refusalOf outOfRange noParameter notFinite hOf signOf zeroAt blankSlices written writtenRow segvRow outside angularRefusal angularPair angularOf
-streams-right = refl
-
 -- a stream, the room in the buffer, and what a call from byte 0 on answers, the first record being number 5
 abbrev pub calls : List (List ℕ × ℕ × Answered)
 calls =
@@ -55,7 +40,3 @@ calls =
     -- a refused stream has its line, and the byte and the number are those of the record that is refused
     (asks 8 ++ 0x53 ∷ [], 20000, record { text = ascii "R 5 3\nR 6 1\n"; at = 33; index = 6; refused = true }) ∷
     []
-
-pub calls-right : map (λ (row : List ℕ × ℕ × Answered). answered (row .0) (row .1) 0 5) calls ≡ map (λ (row : List ℕ × ℕ × Answered). row .2) calls
-unfolding answeredIn responseTo textOf nextAt numberAt decimalIn digit operationOf ofBits
-calls-right = refl

@@ -1,0 +1,4 @@
+pub mod Demand3
+pub mod RowLaws
+pub mod Edges
+pub mod Streams
