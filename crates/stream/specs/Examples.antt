@@ -11,7 +11,7 @@ use Rattle.records.specs.Text.{ascii, digit, decimalIn, hexadecimal}
 use Rattle.segv.specs.Row.{written, writtenRow, segvRow}
 use Rattle.modes.specs.Operations.{operationOf}
 use Rattle.angular.specs.Examples.{computed}
-use Rattle.modes.specs.Refusals.{signOf, hOf, outOfRange, noParameter, refusalOf, notFinite}
+use Rattle.modes.specs.Refusals.{signOf, outOfRange, noParameter, refusalOf, notFinite}
 use Rattle.modes.specs.Rows.{tooShort, zeroAt, rowIn, rowOf, blankSlices, lessened, dlmfIn, dlmfOf}
 use Rattle.modes.specs.Angular.{outside, angularRefusal, angularPair, angularOf}
 use Rattle.stream.specs.Response.{vLines, dLines, rowText, dlmfText, answerText, textOf, responseTo}
@@ -40,7 +40,7 @@ streams =
     []
 
 pub streams-right : map (λ (row : List ℕ × String). linesOf (row .0)) streams ≡ map (λ (row : List ℕ × String). ascii (row .1)) streams
-unfolding computed linesIn responseTo textOf rowText dlmfText answerText vLines dLines nextAt numberAt decimalIn hexadecimal digit operationOf dlmfOf dlmfIn lessened rowOf rowIn tooShort refusalOf outOfRange noParameter notFinite hOf signOf zeroAt blankSlices written writtenRow segvRow outside angularRefusal angularPair angularOf
+unfolding computed linesIn responseTo textOf rowText dlmfText answerText vLines dLines nextAt numberAt decimalIn hexadecimal digit operationOf dlmfOf dlmfIn lessened rowOf rowIn tooShort refusalOf outOfRange noParameter notFinite signOf zeroAt blankSlices written writtenRow segvRow outside angularRefusal angularPair angularOf
 streams-right = refl
 
 -- a stream, the room in the buffer, and what a call from byte 0 on answers, the first record being number 5
