@@ -13,8 +13,8 @@ use Rattle.arith.specs.Powers.{power, halfPower}
 use Rattle.expansion.specs.Sdmn.{sdmn}
 use Rattle.expansion.specs.Sckb.{sckb}
 use Rattle.angular.specs.declared.aswfa.Pair.{Pair}
-use Rattle.angular.specs.Stages.{Agree}
-use Rattle.angular.specs.Aswfa.{a0Of, converged, summed, valueTerm, derivativeTerm, su1Of, su2Of, derivativeAtOne, derivativeInside, beforeSigns, signAt, aswfa, nm2Of}
+use Rattle.angular.specs.Inside.Stages.{Agree}
+use Rattle.angular.specs.Aswfa.{a0Of, negligible, summed, valueTerm, derivativeTerm, su1Of, su2Of, derivativeAtOne, derivativeInside, beforeSigns, signAt, aswfa, nm2Of}
 
 -- ---- x1 to the power m/2: the source's case of m = 0 and x1 = 0 is what the power rule gives
 pub a0-even : (m : ℕ) (x1 : Float) → m % 2 ≡ 0 → power x1 (m / 2) ≡ a0Of m x1
@@ -33,11 +33,11 @@ a0-odd (suc m) x1 h = rw (ne-eqb (suc m) 0 (λ (e : suc m ≡ 0). omega arith), 
 
 -- ---- a term of a sum
 module _ (term : ℕ → Float) (left k : ℕ) (r su : Float) (is : r ≡ term k) where
-  pub summed-stop : converged k r (su ⊕ r) ≡ true → su ⊕ r ≡ summed term (suc left) k su
+  pub summed-stop : negligible k r (su ⊕ r) ≡ true → su ⊕ r ≡ summed term (suc left) k su
   unfolding summed
   summed-stop h = rw is (sym (rw (rw is at h, summed)))
 
-  pub summed-on : converged k r (su ⊕ r) ≡ false → summed term left (suc k) (su ⊕ r) ≡ summed term (suc left) k su
+  pub summed-on : negligible k r (su ⊕ r) ≡ false → summed term left (suc k) (su ⊕ r) ≡ summed term (suc left) k su
   unfolding summed
   summed-on h = rw is (sym (rw (rw is at h, summed)))
 
@@ -46,12 +46,12 @@ summed-same : (f g : ℕ → Float) (left k : ℕ) (su : Float) → ((i : ℕ) �
 unfolding summed
 summed-same f g zero k su h = refl
 summed-same f g (suc left) k su h =
-    go (converged k (g k) (su ⊕ g k)) refl (summed-same f g left (suc k) (su ⊕ g k) (λ (i : ℕ) (l : i < suc k + left). h i (omega arith)))
+    go (negligible k (g k) (su ⊕ g k)) refl (summed-same f g left (suc k) (su ⊕ g k) (λ (i : ℕ) (l : i < suc k + left). h i (omega arith)))
   where
     here : g k ≡ f k
     here = sym (h k (omega arith))
 
-    go : (t : Bool) → converged k (g k) (su ⊕ g k) ≡ t → summed f left (suc k) (su ⊕ g k) ≡ summed g left (suc k) (su ⊕ g k) → summed f (suc left) k su ≡ summed g (suc left) k su
+    go : (t : Bool) → negligible k (g k) (su ⊕ g k) ≡ t → summed f left (suc k) (su ⊕ g k) ≡ summed g left (suc k) (su ⊕ g k) → summed f (suc left) k su ≡ summed g (suc left) k su
     go true e later = sym (summed-stop f left k (g k) su here e) ∙ summed-stop g left k (g k) su refl e
     go false e later = sym (summed-on f left k (g k) su here e) ∙ later ∙ summed-on g left k (g k) su refl e
 

@@ -3,20 +3,19 @@ use Prim.Native.Nat.{ℕ, zero, suc, _+_, _-_, _/_, _%_}
 use mathlib.Core.Bool.{Bool, true, false, _&&_, cond}
 use mathlib.Core.List.{List}
 use lib.Dec.{eqb, leb}
-use lib.IntN.{natAbs}
 use lib.Ieee.{Float, lt, eq, neg}
 use Rattle.arith.specs.Double.{_⊕_, _⊖_, _⊗_, _⊘_, dbl, at, #0, #1, #2, #1e-14, #1e100}
 use Rattle.arith.specs.Choice.{abs}
 use Rattle.arith.specs.Powers.{power, halfPower}
-use Rattle.arith.specs.Truncation.{truncate}
+use Rattle.expansion.specs.Terms.{cutOf}
 use Rattle.expansion.specs.Sdmn.{sdmn}
 use Rattle.expansion.specs.Sckb.{sckb}
 use Rattle.angular.specs.declared.aswfa.Pair.{Pair}
 
--- ---- how far the sums run. `offset` is n − m, halved here as a whole number; `sdmn` halves it as a double
+-- ---- how far the sums run. `offset` is n − m
 
 abbrev pub nmOf : ℕ → Float → ℕ
-nmOf offset c = 40 + natAbs (truncate (dbl (offset / 2) ⊕ c))
+nmOf offset c = 40 + cutOf offset c
 
 unfoldable pub nm2Of : ℕ → Float → ℕ
 nm2Of offset c = nmOf offset c / 2 - 2
@@ -28,17 +27,17 @@ a0Of m x1 = cond (eqb m 0 && eq x1 #0) #1 (cond (eqb (m % 2) 0) (power x1 (m / 2
 
 -- ---- the two sums
 
--- a sum ends with its term r for k where k is at least 10 and r is below 1e-14 of the sum in size
-unfoldable pub converged : ℕ → Float → Float → Bool
-converged k r su = leb 10 k && lt (abs (r ⊘ su)) #1e-14
+-- the term r for k, which a sum ends with: k is at least 10, and r is below 1e-14 of the sum su in size
+unfoldable pub negligible : ℕ → Float → Float → Bool
+negligible k r su = leb 10 k && lt (abs (r ⊘ su)) #1e-14
 
--- `left` more terms from the one for k on, or fewer where the sum has converged
+-- `left` more terms from the one for k on, or fewer where one is negligible
 unfoldable pub summed : (ℕ → Float) → ℕ → ℕ → Float → Float
 summed term zero k su = su
 summed term (suc left) k su =
     let r = term k in
     let su' = su ⊕ r in
-    elim (converged k r su') [ true ↦ su' | false ↦ summed term left (suc k) su' ]
+    elim (negligible k r su') [ true ↦ su' | false ↦ summed term left (suc k) su' ]
 
 -- the term of the value for k, and that of the derivative
 abbrev pub valueTerm : List Float → Float → ℕ → Float

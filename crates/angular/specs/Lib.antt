@@ -1,4 +1,3 @@
 pub mod Aswfa
 pub mod MirrorLaw
-pub mod Examples
-pub mod Stages
+pub mod Inside

@@ -6,7 +6,7 @@ ghost use Prim.Native.Nat.{_-_, _%_, _<_, _≤_};
 ghost use Rattle.expansion.specs.Terms as Terms;
 ghost use Rattle.expansion.specs.Sckb.{sckb};
 ghost use Rattle.angular.specs.Aswfa as Aswfa;
-ghost use Rattle.angular.specs.Stages.{Final};
+ghost use Rattle.angular.specs.Inside.Stages.{Final};
 use super::sums::Sum;
 
 // The angular function and its derivative at one argument.

@@ -7,12 +7,12 @@ ghost use Rattle.arith.specs.Double.{#0};
 ghost use Rattle.expansion.specs.Terms as Terms;
 ghost use Rattle.angular.specs.Aswfa as Aswfa;
 
-// The last term's number, for n - m and c. It halves n - m as a whole number, unlike `sdmn`.
+// The last term's number, for n - m and c.
 pub(crate) fn nm2_of(offset: u32, c: f64) -> u32
-    requires { ⌜ (offset < 200) × (lt c #0 ≡ false) × (lt (Terms.halfSum offset c) Terms.#175 ≡ true) ⌝ }
+    requires { ⌜ (offset < 200) × (lt c #0 ≡ false) × (lt (Terms.hOf offset c) Terms.#175 ≡ true) ⌝ }
     ensures { λ r. ⌜ r ≡ Aswfa.nm2Of offset c ⌝ }
     ensures { λ r. ⌜ (18 ≤ r) × (r < 106) ⌝ }
 {
-    let nm = 40 + (arith::truncate(((offset / 2) as f64) + c) as u32);
+    let nm = 40 + expansion::terms::cut(offset, c);
     nm / 2 - 2
 }

@@ -2,11 +2,11 @@
 ghost use mathlib.Core.Path.{_≡_};
 ghost use Prim.Native.Nat.{_<_, _≤_};
 ghost use Rattle.angular.specs.Aswfa as Aswfa;
-ghost use Rattle.angular.specs.Stages.{Final};
+ghost use Rattle.angular.specs.Inside.Stages.{Final};
 
-// The stopping test of a sum after its term r for k: k is at least 10 and r below 1e-14 of the sum.
-fn converged(k: u32, r: f64, su: f64) -> bool
-    ensures { λ b. ⌜ b ≡ Aswfa.converged k r su ⌝ }
+// The stopping test of a sum after its term r for k: k is at least 10 and r below 1e-14 of the sum su.
+fn negligible(k: u32, r: f64, su: f64) -> bool
+    ensures { λ b. ⌜ b ≡ Aswfa.negligible k r su ⌝ }
 {
     if k < 10 {
         return false;
@@ -32,7 +32,7 @@ pub(crate) fn su1_of(ck: &[f64; 200], x1: f64, nm2: u32) -> Sum
     while k <= nm2 {
         let r = ck[k as usize] * p;
         su1 = su1 + r;
-        if converged(k, r, su1) {
+        if negligible(k, r, su1) {
             return Sum {
                 su: su1,
                 ended: true,
@@ -59,7 +59,7 @@ pub(crate) fn su2_of(ck: &[f64; 200], x1: f64, nm2: u32) -> Sum
     while k <= nm2 {
         let r = (k as f64) * ck[k as usize] * p;
         su2 = su2 + r;
-        if converged(k, r, su2) {
+        if negligible(k, r, su2) {
             return Sum {
                 su: su2,
                 ended: true,

@@ -1,65 +1,72 @@
 -- Laws of the definitions, for the crates above. Assumes nothing.
 use mathlib.Core.Path.{_≡_, refl, sym, ap, subst, _∙_}
 use mathlib.Core.Logic.{_⊎_, inl, inr}
-use mathlib.Core.Bool.{Bool, true, false, cond}
-use Prim.Native.Nat.{ℕ, _+_, _-_, _*_, _/_, _^_, _≤_, _<_, min}
-use native.Mathlib.Nat.{zero-div, mul-one, mul-pos, mul-mul-mul-comm, mul-right-comm, div-lt-iff-lt-mul, lt-of-mul-lt-mul-right}
+use mathlib.Core.Bool.{Bool, true, false, not, _&&_, cond}
+use Prim.Native.Nat.{ℕ, zero, suc, _+_, _-_, _*_, _/_, _%_, _^_, _≤_, _<_, min, compare}
+use native.Mathlib.Nat.{zero-div, zero-mul, mul-one, mul-pos, add-comm, mul-comm, mul-mul-mul-comm, mul-right-comm, div-lt-iff-lt-mul, lt-of-mul-lt-mul-right}
 use native.Mathlib.Omega.{arith}
 use borrow.Author.Tests.{ltb-true, ltb-false}
-use lib.IntN.{ℤ, pos, negℤ}
-use lib.Ieee.{Float, nan, inf, fin, binary64, up, down, round, mul, lt, neg, ofInt, toSigned, ofBits}
+use lib.IntN.{pos, negℤ}
+use lib.Dec.{ltb}
+use lib.Ieee.{Float, nan, inf, fin, binary64, prec, emax, low, up, down, size, nearest, odd, units, round, sum, add, sub, mul, lt, neg, ofInt, toSigned, toUnsigned, ofBits}
 use lib.Ieee.Back.{round-whole}
 use lib.Ieee.Scale.{round-same}
 use lib.Ieee.Exact.{HasValue}
 use lib.Ieee.Fits.{down-pos}
-use mir.Syntax.{w32}
-use mir.Val.{toZ, ofZ}
-use mir.Facts.{toZ-ofZ}
-use Rattle.arith.specs.Double.{_⊕_, _⊗_, _⊘_, dbl, #0, #2}
-use Rattle.arith.specs.Truncation.{truncate}
+use Rattle.arith.specs.Double.{_⊖_, _⊗_, dbl, #0}
+use Rattle.arith.specs.Truncation.{truncate, wholePart}
 use Rattle.arith.specs.Choice.{abs, lesser, greater}
 use Rattle.arith.proofs.Flags.{not-taken, not-left}
-use Rattle.arith.proofs.Unsigned.{Unsigned, dbl-unsigned, quotient-unsigned, sum-unsigned, unsigned-not-below}
 
 -- ---- truncation
 
--- From zero on and below a double that is the whole number b, the whole part is a whole number below b. (-0 is not below zero.)
-pub truncate-below : (x y : Float) (b : ℕ) → HasValue y false b 1 → 0 < b → b ≤ 2 ^ 31 → lt x #0 ≡ false → lt x y ≡ true → (t : ℕ) × (truncate x ≡ pos t) × (t < b)
-unfolding lt toSigned ofBits
-truncate-below x nan b v B h p q = absurd v
-truncate-below x (inf s) b v B h p q = absurd v
-truncate-below nan (fin s n d) b v B h p q = not-taken q
-truncate-below (inf true) (fin s n d) b v B h p q = not-left p
-truncate-below (inf false) (fin s n d) b v B h p q = not-taken q
-truncate-below (fin true m e) (fin s n d) b v B h p q = (0, ap (λ (c : ℕ). negℤ (pos (min c (2 ^ 31)))) (ap (λ (a : ℕ). a / down e) (none (m * up e) (0 * 1 * down e) (rw (mul-one (m * up e)) at (ltb-false 0 (m * up e * 1 + 0 * 1 * down e) p))) ∙ zero-div (down e)), B)
+-- the whole part of a double that is not below zero is the double truncated. (-0 is not below zero.)
+pub truncate-whole : (x : Float) → lt x #0 ≡ false → truncate x ≡ pos (wholePart x)
+unfolding lt toSigned toUnsigned ofBits
+truncate-whole nan p = refl
+truncate-whole (inf true) p = not-left p
+truncate-whole (inf false) p = refl
+truncate-whole (fin true m e) p =
+    ap (λ (c : ℕ). negℤ (pos (min c (2 ^ 31))))
+    (ap (λ (a : ℕ). a / down e) (none (m * up e) (0 * 1 * down e) (rw (mul-one (m * up e)) at (ltb-false 0 (m * up e * 1 + 0 * 1 * down e) p))) ∙ zero-div (down e))
   where
     none : (a z : ℕ) → a + z ≤ 0 → a ≡ 0
     none a z l = omega arith
-truncate-below (fin false m e) (fin true n d) b v B h p q = not-left (v .0)
-truncate-below (fin false m e) (fin false n d) b v B h p q =
-    let c = m * up e / down e in
-    let l : c < b = div-lt-iff-lt-mul (down-pos e) .1 (lt-of-mul-lt-mul-right (down d) (subst (λ (z : ℕ). m * up e * down d < z) (over ∙ mul-right-comm b (down d) (down e)) (ltb-true (m * up e * down d) (n * up d * down e) q))) in
-    (c, ap pos (small c l), l)
+truncate-whole (fin false m e) p = refl
+
+-- below zero the whole part is 0
+pub whole-none : (x : Float) → lt x #0 ≡ true → 0 ≡ wholePart x
+unfolding lt toUnsigned ofBits
+whole-none nan p = not-taken p
+whole-none (inf true) p = refl
+whole-none (inf false) p = not-taken p
+whole-none (fin true m e) p = refl
+whole-none (fin false m e) p = absurd (past (m * up e * 1) (0 * 1 * down e) (zero-mul (down e)) (ltb-true (m * up e * 1) (0 * 1 * down e) p))
+  where
+    past : (a z : ℕ) → z ≡ 0 → a < z → ⊥
+    past a z e l = omega arith
+
+-- below a double that is the whole number b, the whole part is below b
+pub whole-below : (x y : Float) (b : ℕ) → HasValue y false b 1 → 0 < b → lt x y ≡ true → wholePart x < b
+unfolding lt toUnsigned
+whole-below x nan b v B q = absurd v
+whole-below x (inf s) b v B q = absurd v
+whole-below nan (fin s n d) b v B q = not-taken q
+whole-below (inf true) (fin s n d) b v B q = B
+whole-below (inf false) (fin s n d) b v B q = not-taken q
+whole-below (fin true m e) (fin s n d) b v B q = B
+whole-below (fin false m e) (fin true n d) b v B q = not-left (v .0)
+whole-below (fin false m e) (fin false n d) b v B q =
+    small (m * up e / down e)
+    (div-lt-iff-lt-mul (down-pos e) .1 (lt-of-mul-lt-mul-right (down d) (subst (λ (z : ℕ). m * up e * down d < z) (over ∙ mul-right-comm b (down d) (down e)) (ltb-true (m * up e * down d) (n * up d * down e) q))))
   where
     over : n * up d * down e ≡ b * down d * down e
     over = ap (λ (z : ℕ). z * down e) (sym (mul-one (n * up d)) ∙ v .1)
 
-    small : (c : ℕ) → c < b → min c (2 ^ 31 - 1) ≡ c
+    small : (c : ℕ) → c < b → min c (2 ^ 31 - 1) < b
     small c l = omega arith
 
--- the same of a sum, x with its sign clear and c not below zero
-pub truncate-sum-below : (x c y : Float) (b : ℕ) → Unsigned x → HasValue y false b 1 → 0 < b → b ≤ 2 ^ 31 → lt c #0 ≡ false → lt (x ⊕ c) y ≡ true → (t : ℕ) × (truncate (x ⊕ c) ≡ pos t) × (t < b)
-truncate-sum-below x c y b u v B h p q = truncate-below (x ⊕ c) y b v B h (unsigned-not-below (x ⊕ c) (sum-unsigned x c u p)) q
-
--- a whole number as the machine reads it back from 32 bits
-pub reads-back : (z : ℤ) (t : ℕ) → z ≡ pos t → t < 2 ^ 31 → toZ w32 (ofZ w32 z) ≡ pos t
-reads-back z t e l = ap (λ (z : ℤ). toZ w32 (ofZ w32 z)) e ∙ toZ-ofZ {w = w32} {z = pos t} (record { sfits = omega arith })
-
 -- ---- whole numbers
-
-pub half-unsigned : (n : ℕ) → Unsigned (dbl n ⊘ #2)
-unfolding ofBits
-half-unsigned n = quotient-unsigned (dbl n) #2 (dbl-unsigned n) refl
 
 -- two whole numbers' product is exact where a double holds each
 pub dbl-product : (a b : ℕ) → a ≤ 2 ^ 53 → b ≤ 2 ^ 53 → dbl a ⊗ dbl b ≡ dbl (a * b)
@@ -84,6 +91,63 @@ abs-neg nan = refl
 abs-neg (inf s) = refl
 abs-neg (fin s m e) = refl
 
+-- ---- a difference has one size, whichever of the two is subtracted
+abs-odd : (d : ℕ) (s : Bool) (q k l : ℕ) → abs (odd d s q k l) ≡ odd d false q k l
+unfolding abs odd
+abs-odd d s zero k l = refl
+abs-odd d s (suc q) k l = refl
+
+abs-round : (s : Bool) (a b : ℕ) → abs (round binary64 s a b) ≡ round binary64 false a b
+unfolding abs round units
+abs-round s a b =
+    let n = a * 2 ^ low binary64 in
+    let k = size (n / b) - prec binary64 in
+    let u = b * 2 ^ k in
+    let q = nearest (n / u) (compare (n % u * 2) u) in
+    go (ltb (q * 2 ^ k) (2 ^ (low binary64 + suc (emax binary64)))) q k
+  where
+    go : (t : Bool) (q k : ℕ) → abs (cond t (odd 54 s q k (low binary64)) (inf s)) ≡ cond t (odd 54 false q k (low binary64)) (inf false)
+    go true q k = abs-odd 54 s q k (low binary64)
+    go false q k = refl
+
+abs-either : (s t u v : Bool) (a b c : ℕ)
+    → abs (cond (ltb a b) (round binary64 s (b - a) c) (round binary64 t (a - b) c)) ≡ abs (cond (ltb b a) (round binary64 u (a - b) c) (round binary64 v (b - a) c))
+abs-either s t u v a b c = go (ltb a b) (ltb b a) refl refl
+  where
+    go : (x y : Bool) → ltb a b ≡ x → ltb b a ≡ y
+        → abs (cond x (round binary64 s (b - a) c) (round binary64 t (a - b) c)) ≡ abs (cond y (round binary64 u (a - b) c) (round binary64 v (b - a) c))
+    go true true h k = let l = ltb-true a b h in let r = ltb-true b a k in absurd (omega arith)
+    go true false h k = abs-round s (b - a) c ∙ sym (abs-round v (b - a) c)
+    go false true h k = abs-round t (a - b) c ∙ sym (abs-round u (a - b) c)
+    go false false h k =
+        let l = ltb-false a b h in
+        let r = ltb-false b a k in
+        let e : a - b ≡ b - a = omega arith in
+        abs-round t (a - b) c ∙ ap (λ (n : ℕ). round binary64 false n c) e ∙ sym (abs-round v (b - a) c)
+
+abs-sum : (s t : Bool) (a b c : ℕ) → abs (sum binary64 s a (not t) b c) ≡ abs (sum binary64 t b (not s) a c)
+unfolding sum
+abs-sum true false a b c = abs-round true (a + b) c ∙ ap (λ (n : ℕ). round binary64 false n c) (add-comm a b) ∙ sym (abs-round false (b + a) c)
+abs-sum false true a b c = abs-round false (a + b) c ∙ ap (λ (n : ℕ). round binary64 false n c) (add-comm a b) ∙ sym (abs-round true (b + a) c)
+abs-sum true true a b c = abs-either false (ltb b a) false (ltb a b) a b c
+abs-sum false false a b c = abs-either true false true false a b c
+
+pub abs-difference : (x y : Float) → abs (x ⊖ y) ≡ abs (y ⊖ x)
+unfolding sub add abs neg
+abs-difference nan nan = refl
+abs-difference nan (inf t) = refl
+abs-difference nan (fin t n d) = refl
+abs-difference (inf s) nan = refl
+abs-difference (inf true) (inf true) = refl
+abs-difference (inf true) (inf false) = refl
+abs-difference (inf false) (inf true) = refl
+abs-difference (inf false) (inf false) = refl
+abs-difference (inf s) (fin t n d) = refl
+abs-difference (fin s m e) nan = refl
+abs-difference (fin s m e) (inf t) = refl
+abs-difference (fin s m e) (fin t n d) = ap (λ (c : ℕ). abs (sum binary64 s (m * up e * down d) (not t) (n * up d * down e) c)) (mul-comm (down e) (down d)) ∙ abs-sum s t (m * up e * down d) (n * up d * down e) (down d * down e)
+
+-- ---- the lesser and the greater
 either : (t : Bool) (a b : Float) → (cond t b a ≡ a) ⊎ (cond t b a ≡ b)
 either true a b = inr refl
 either false a b = inl refl

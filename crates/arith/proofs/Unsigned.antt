@@ -1,13 +1,13 @@
--- Doubles whose sign is clear, which sums and quotients of such doubles keep. Assumes nothing.
+-- Doubles whose sign is clear, which sums of such doubles keep. Assumes nothing.
 use mathlib.Core.Path.{_≡_, refl, ap, _∙_}
 use mathlib.Core.Bool.{Bool, true, false, cond}
 use Prim.Native.Nat.{ℕ, zero, suc, _+_, _-_, _*_, _/_, _^_, _%_, _≤_, compare}
 use native.Mathlib.Nat.{zero-mul}
 use native.Mathlib.Omega.{arith}
 use borrow.Author.Tests.{ltb-false, le-ltb}
-use lib.Dec.{ltb, eqb}
-use lib.Ieee.{Float, nan, inf, fin, Format, binary64, prec, emax, low, size, nearest, up, down, odd, units, round, sum, add, div, ofInt, lt, ofBits}
-use Rattle.arith.specs.Double.{_⊕_, _⊘_, dbl, #0}
+use lib.Dec.{ltb}
+use lib.Ieee.{Float, nan, inf, fin, Format, binary64, prec, emax, low, size, nearest, up, down, odd, units, round, sum, add, ofInt, lt, ofBits}
+use Rattle.arith.specs.Double.{_⊕_, dbl, #0}
 use Rattle.arith.proofs.Flags.{not-left}
 
 -- the sign is clear, or there is none
@@ -38,31 +38,10 @@ round-unsigned f a b =
     let u = b * 2 ^ k in
     units-unsigned f (nearest (n / u) (compare (n % u * 2) u)) k
 
--- ---- sums, quotients and whole numbers
+-- ---- sums and whole numbers
 pub dbl-unsigned : (n : ℕ) → Unsigned (dbl n)
 unfolding ofInt
 dbl-unsigned n = round-unsigned binary64 n 1
-
-pub quotient-unsigned : (x y : Float) → Unsigned x → Unsigned y → Unsigned (x ⊘ y)
-unfolding div
-quotient-unsigned nan y u v = tt
-quotient-unsigned (inf s) nan u v = tt
-quotient-unsigned (inf s) (inf t) u v = tt
-quotient-unsigned (inf false) (fin false n d) u v = refl
-quotient-unsigned (inf false) (fin true n d) u v = not-left v
-quotient-unsigned (inf true) (fin t n d) u v = not-left u
-quotient-unsigned (fin s m e) nan u v = tt
-quotient-unsigned (fin false m e) (inf false) u v = refl
-quotient-unsigned (fin false m e) (inf true) u v = not-left v
-quotient-unsigned (fin true m e) (inf t) u v = not-left u
-quotient-unsigned (fin true m e) (fin t n d) u v = not-left u
-quotient-unsigned (fin false m e) (fin true n d) u v = not-left v
-quotient-unsigned (fin false m e) (fin false n d) u v = go (eqb n 0) (eqb m 0)
-  where
-    go : (a b : Bool) → Unsigned (cond a (cond b nan (inf false)) (round binary64 false (m * up e * down d) (n * up d * down e)))
-    go true true = tt
-    go true false = refl
-    go false b = round-unsigned binary64 (m * up e * down d) (n * up d * down e)
 
 -- a double that is not below zero may be -0
 pub sum-unsigned : (x y : Float) → Unsigned x → lt y #0 ≡ false → Unsigned (x ⊕ y)
@@ -89,17 +68,5 @@ sum-unsigned (fin false m e) (fin true n d) u v =
     zero-size : n * up d * down e ≡ 0
     zero-size = ap (λ (x : ℕ). x * down e) (zero-left (n * up d) (0 * 1 * down d) (ltb-false 0 (n * up d * 1 + 0 * 1 * down d) v)) ∙ zero-mul (down e)
 
-    none : (z a : ℕ) → z ≡ 0 → z ≤ a
-    none z a h = omega arith
-
--- ---- and compare with zero
-pub unsigned-not-below : (x : Float) → Unsigned x → lt x #0 ≡ false
-unfolding lt ofBits
-unsigned-not-below nan u = refl
-unsigned-not-below (inf false) u = refl
-unsigned-not-below (inf true) u = not-left u
-unsigned-not-below (fin true m e) u = not-left u
-unsigned-not-below (fin false m e) u = le-ltb (m * up e * 1) (0 * 1 * down e) (none (0 * 1 * down e) (m * up e * 1) (zero-mul (down e)))
-  where
     none : (z a : ℕ) → z ≡ 0 → z ≤ a
     none z a h = omega arith

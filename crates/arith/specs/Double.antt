@@ -50,6 +50,9 @@ abbrev pub #1 : Float
 abbrev pub #1·5 : Float
 #1·5 = bits 0x3ff8_0000_0000_0000
 
+abbrev pub #π/2 : Float
+#π/2 = bits 0x3ff9_21fb_5444_2d18
+
 abbrev pub #2 : Float
 #2 = bits 0x4000_0000_0000_0000
 

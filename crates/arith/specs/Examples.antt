@@ -4,7 +4,7 @@ use mathlib.Core.List.{List, [], _∷_, map}
 use mathlib.Core.Bool.{false}
 use Prim.Native.Nat.{ℕ, _^_}
 use lib.Ieee.{Float, binary64, round, ofBits, toBits}
-use Rattle.arith.specs.Double.{bits, bitsOf, #0, #0·5, #1, #1·5, #2, #3, #4, #5, #1e-280, #1e-200, #1e-100, #1e-30, #1e-14, #1e-10, #1e100, #1e300}
+use Rattle.arith.specs.Double.{bits, bitsOf, #0, #0·5, #1, #1·5, #π/2, #2, #3, #4, #5, #1e-280, #1e-200, #1e-100, #1e-30, #1e-14, #1e-10, #1e100, #1e300}
 use Rattle.arith.specs.Root.{sqrt}
 
 -- ---- roots
@@ -73,3 +73,8 @@ constants =
 pub constants-right : map (λ (row : Float × ℕ × ℕ). row .0) constants ≡ map (λ (row : Float × ℕ × ℕ). round binary64 false (row .1) (row .2)) constants
 unfolding ofBits round
 constants-right = refl
+
+-- π/2 is 1.57079632679489661923.., half of DLMF 3.12's π, so it lies between these two fractions. Both round to the constant, and so does every number between them, since rounding keeps the order.
+pub half-pi-right : (round binary64 false 157079632679489661923 (10 ^ 20) ≡ #π/2) × (round binary64 false 157079632679489661924 (10 ^ 20) ≡ #π/2)
+unfolding ofBits round
+half-pi-right = (refl, refl)

@@ -1,7 +1,7 @@
 pub mod Double
 pub mod Root
 pub mod NearestRoot
-pub mod Scaled
+pub mod Inside
 pub mod Truncation
 pub mod Powers
 pub mod Choice

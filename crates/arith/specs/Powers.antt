@@ -15,7 +15,7 @@ power y (suc k) = power y k ⊗ y
 abbrev pub halfPower : Float → ℕ → Float
 halfPower y k = sqrt y ⊗ power y k
 
--- 2 to the power n and 1/2 to the power n, exactly. `proofs/Exact.antt` shows that the power rule gives them
+-- 2 to the power n and 1/2 to the power n, exactly. `proofs/Exact.antt` shows that the power rule gives them up to n = 400 and n = 200
 abbrev pub twoTo : ℕ → Float
 twoTo n = fin false 1 (pos n)
 

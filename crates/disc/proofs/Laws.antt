@@ -1,43 +1,20 @@
 -- How the definitions of `rmn1` and `rmn2so` unfold, in the form in which the proofs of the code meet them. Assumes nothing.
-use Prim.Native.Nat.{ℕ, suc, _+_, _-_, _/_, _%_, _<_}
-use mathlib.Core.Path.{_≡_, refl, sym, ap, _∙_}
+use Prim.Native.Nat.{ℕ, suc, _-_, _%_}
+use mathlib.Core.Path.{_≡_, sym, _∙_}
 use mathlib.Core.Bool.{true, false}
 use mathlib.Core.List.{List}
-use native.Mathlib.Omega.{arith}
-use lib.IntN.{ℤ, pos, natAbs}
-use lib.Ieee.{Float, lt, le, ofBits}
-use mir.Syntax.{w32}
-use mir.Val.{toZ, ofZ}
-use Rattle.arith.specs.Double.{_⊕_, _⊘_, dbl, at, #0, #1e-280, #1e300}
+use lib.Ieee.{Float, le}
+use Rattle.arith.specs.Double.{_⊕_, _⊘_, at, #1e-280, #1e300}
 use Rattle.arith.specs.Choice.{abs}
-use Rattle.arith.specs.Truncation.{truncate}
-use Rattle.arith.proofs.Unsigned.{dbl-unsigned}
-use Rattle.arith.proofs.Laws.{truncate-sum-below, reads-back}
-use Rattle.expansion.specs.Terms.{halfSum, #175}
-use Rattle.expansion.proofs.Halves.{half-below, whole-and-part}
-use Rattle.joining.specs.Sums.{settled}
+use Rattle.expansion.specs.Sums.{settled}
 use Rattle.joining.specs.Kmn.{kmn}
 use Rattle.joining.specs.declared.qstar.Factors.{Factors}
 use Rattle.joining.specs.Qstar.{qstar}
 use Rattle.joining.specs.Cbk.{cbk}
-use Rattle.disc.specs.declared.rmn1.Kind.{Kind}
-use Rattle.disc.specs.Limits.{firstTerms, secondTerms}
+use Rattle.disc.specs.declared.rmn1.Pair.{Pair}
+use Rattle.disc.specs.Limits.{secondTerms}
 use Rattle.disc.specs.Rmn1.{powersOn, powersSum}
 use Rattle.disc.specs.Rmn2so.{combined, rmn2so}
-
--- ---- how far the sums run: the whole parts, and as the machine reads them back
-module _ (offset : ℕ) (c : Float) (z : ℤ) (o : offset < 200) (p : lt c #0 ≡ false) (q : lt (halfSum offset c) #175 ≡ true) where
-  pub first-whole : z ≡ truncate c → (t : ℕ) × (toZ w32 (ofZ w32 z) ≡ pos t) × (offset / 2 + t < 175) × (25 + offset / 2 + t ≡ firstTerms offset c)
-  unfolding firstTerms
-  first-whole e =
-      let k = whole-and-part offset c o p q in
-      (k .0, reads-back z (k .0) (e ∙ k .1) (omega (arith, k .2)), k .2, ap (λ (z : ℤ). 25 + offset / 2 + natAbs z) (sym (k .1)))
-
-  pub second-whole : z ≡ truncate (dbl (offset / 2) ⊕ c) → (t : ℕ) × (toZ w32 (ofZ w32 z) ≡ pos t) × (t < 175) × (25 + t ≡ secondTerms offset c)
-  unfolding secondTerms ofBits
-  second-whole e =
-      let k = truncate-sum-below (dbl (offset / 2)) c #175 175 (dbl-unsigned (offset / 2)) (refl, refl) (omega arith) (omega arith) p (half-below offset c o p q) in
-      (k .0, reads-back z (k .0) (e ∙ k .1) (omega (arith, k .2)), k .2, ap (λ (z : ℤ). 25 + natAbs z) (sym (k .1)))
 
 -- ---- a term of the sum of the power coefficients
 module _ (ck : List Float) (left j : ℕ) (sum sw : Float) where
@@ -55,7 +32,7 @@ module _ (df ck : List Float) (m n : ℕ) (c cv a : Float) (e : a ≡ abs (at df
   unfolding rmn2so
   second-large h = sym (rw (rw e at h, rmn2so))
 
-  pub second-combined : le a #1e-280 ≡ false → (ck1 : Float) (q : Factors) (bk : List Float) (nm : ℕ) (s : Float) (r : Kind) → ck1 ≡ kmn df m n c → q ≡ qstar ck m n c ck1
+  pub second-combined : le a #1e-280 ≡ false → (ck1 : Float) (q : Factors) (bk : List Float) (nm : ℕ) (s : Float) (r : Pair) → ck1 ≡ kmn df m n c → q ≡ qstar ck m n c ck1
       → bk ≡ cbk ck m n c cv (q .qt) → nm ≡ secondTerms (n - m) c → s ≡ powersSum ck nm → r ≡ combined ((n - m) % 2) (s ⊘ ck1) (q .qs) (at bk 0) → r ≡ rmn2so df ck m n c cv
   unfolding rmn2so
   second-combined h ck1 q bk nm s r hk hq hb hn hs hr = hr ∙ rw (hs, hn, hb, hq, hk) (sym (rw (rw e at h, rmn2so)))

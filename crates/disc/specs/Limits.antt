@@ -1,14 +1,13 @@
 -- How far the sums on the disc run. `offset` is n − m; the two routines halve it as a whole number and part in where they truncate. Definitions only.
 use Prim.Native.Nat.{ℕ, _+_, _/_}
-use lib.IntN.{natAbs}
 use lib.Ieee.{Float}
-use Rattle.arith.specs.Double.{_⊕_, dbl}
-use Rattle.arith.specs.Truncation.{truncate}
+use Rattle.arith.specs.Truncation.{wholePart}
+use Rattle.expansion.specs.Terms.{cutOf}
 
 -- `rmn1`: 25 + (n − m)/2 + c truncated
 unfoldable pub firstTerms : ℕ → Float → ℕ
-firstTerms offset c = 25 + offset / 2 + natAbs (truncate c)
+firstTerms offset c = 25 + offset / 2 + wholePart c
 
 -- `rmn2so`: 25 + ((n − m)/2 + c) truncated
 unfoldable pub secondTerms : ℕ → Float → ℕ
-secondTerms offset c = 25 + natAbs (truncate (dbl (offset / 2) ⊕ c))
+secondTerms offset c = 25 + cutOf offset c

@@ -5,10 +5,11 @@ use mathlib.Core.List.{List}
 use lib.Dec.{eqb}
 use lib.Ieee.{Float}
 use Rattle.arith.specs.Double.{_⊕_, _⊗_, _⊘_, dbl, at, #0, #1, #2}
+use Rattle.expansion.specs.Sums.{settled}
 use Rattle.expansion.specs.Sckb.{regulator}
 use Rattle.joining.specs.declared.sums.Test.the-variants.{Product}
-use Rattle.joining.specs.Sums.{settled, expansionSum, sa0Above, sa0Below}
-use Rattle.disc.specs.declared.rmn1.Kind.{Kind}
+use Rattle.joining.specs.Sums.{expansionSum, sa0Above, sa0Below}
+use Rattle.disc.specs.declared.rmn1.Pair.{Pair}
 use Rattle.disc.specs.Limits.{firstTerms}
 
 -- ---- the sum of the first power coefficients, `left` more of them from index j on, until it has settled
@@ -32,14 +33,15 @@ sa0Of m n ip c = sa0Above m n ip ⊘ sa0Below m n ip c (r2Of c m)
 
 -- ---- the value where n − m is even and the derivative where it is odd, the other +0
 
-unfoldable pub placed : ℕ → Float → Kind
+unfoldable pub placed : ℕ → Float → Pair
 placed ip v = record { value = cond (eqb ip 0) v #0; derivative = cond (eqb ip 0) #0 v }
 
-unfoldable pub rmn1 : List Float → List Float → ℕ → ℕ → Float → Kind
+-- dfSum is the source's suc
+unfoldable pub rmn1 : List Float → List Float → ℕ → ℕ → Float → Pair
 rmn1 df ck m n c =
     let ip = (n - m) % 2 in
     let nm = firstTerms (n - m) c in
     let reg = regulator m nm in
-    let suc = expansionSum Product df m ip ((n - m) / 2) nm reg in
+    let dfSum = expansionSum Product df m ip ((n - m) / 2) nm reg in
     let sum = powersSum ck nm in
-    placed ip (sum ⊘ (sa0Of m n ip c ⊗ suc) ⊗ at df 0 ⊗ reg)
+    placed ip (sum ⊘ (sa0Of m n ip c ⊗ dfSum) ⊗ at df 0 ⊗ reg)

@@ -4,21 +4,17 @@ use mathlib.Core.Bool.{true, false, cond}
 use mathlib.Core.List.{List}
 use lib.Dec.{eqb}
 use lib.Ieee.{Float, neg, le}
-use Rattle.arith.specs.Double.{_⊕_, _⊗_, _⊘_, at, bits, #1e-280, #1e300}
+use Rattle.arith.specs.Double.{_⊕_, _⊗_, _⊘_, at, #π/2, #1e-280, #1e300}
 use Rattle.arith.specs.Choice.{abs}
 use Rattle.joining.specs.Kmn.{kmn}
 use Rattle.joining.specs.Qstar.{qstar}
 use Rattle.joining.specs.Cbk.{cbk}
-use Rattle.disc.specs.declared.rmn1.Kind.{Kind}
+use Rattle.disc.specs.declared.rmn1.Pair.{Pair}
 use Rattle.disc.specs.Limits.{secondTerms}
 use Rattle.disc.specs.Rmn1.{powersSum}
 
--- the double nearest to π/2
-abbrev pub #π/2 : Float
-#π/2 = bits 0x3ff9_21fb_5444_2d18
-
 -- from the first kind r1 at zero, qs and the first coefficient of the disc
-unfoldable pub combined : ℕ → Float → Float → Float → Kind
+unfoldable pub combined : ℕ → Float → Float → Float → Pair
 combined ip r1 qs bk0 =
     record {
       value = cond (eqb ip 0) (neg #π/2 ⊗ qs ⊗ r1) bk0;
@@ -26,7 +22,7 @@ combined ip r1 qs bk0 =
     }
 
 -- 1e300 twice where the first coefficient is at most 1e-280 in size
-unfoldable pub rmn2so : List Float → List Float → ℕ → ℕ → Float → Float → Kind
+unfoldable pub rmn2so : List Float → List Float → ℕ → ℕ → Float → Float → Pair
 rmn2so df ck m n c cv =
     let ip = (n - m) % 2 in
     let ck1 = kmn df m n c in

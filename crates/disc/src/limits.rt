@@ -9,18 +9,18 @@ ghost use Rattle.disc.specs.Limits as Limits;
 
 // Of `rmn1`, for n - m and c. It truncates c alone.
 pub(crate) fn first_terms(offset: u32, c: f64) -> u32
-    requires { ⌜ (offset < 200) × (lt c #0 ≡ false) × (lt (Terms.halfSum offset c) Terms.#175 ≡ true) ⌝ }
+    requires { ⌜ (offset < 200) × (lt c #0 ≡ false) × (lt (Terms.hOf offset c) Terms.#175 ≡ true) ⌝ }
     ensures { λ r. ⌜ r ≡ Limits.firstTerms offset c ⌝ }
     ensures { λ r. ⌜ (25 ≤ r) × (r < 200) ⌝ }
 {
-    25 + offset / 2 + (arith::truncate(c) as u32)
+    25 + offset / 2 + arith::whole_part(c)
 }
 
 // Of `rmn2so`. It truncates the sum.
 pub(crate) fn second_terms(offset: u32, c: f64) -> u32
-    requires { ⌜ (offset < 200) × (lt c #0 ≡ false) × (lt (Terms.halfSum offset c) Terms.#175 ≡ true) ⌝ }
+    requires { ⌜ (offset < 200) × (lt c #0 ≡ false) × (lt (Terms.hOf offset c) Terms.#175 ≡ true) ⌝ }
     ensures { λ r. ⌜ r ≡ Limits.secondTerms offset c ⌝ }
     ensures { λ r. ⌜ r < 200 ⌝ }
 {
-    25 + (arith::truncate(((offset / 2) as f64) + c) as u32)
+    25 + expansion::terms::cut(offset, c)
 }

@@ -5,8 +5,8 @@ ghost use Rattle.expansion.specs.Terms.{Usable};
 ghost use Rattle.disc.specs.Rmn1 as Rmn1;
 use joining::sums::Test;
 
-// Value and derivative of one radial kind at argument zero.
-pub struct Kind {
+// Value and derivative of a radial function at argument zero.
+pub struct Pair {
     pub value: f64,
     pub derivative: f64,
 }
@@ -21,7 +21,7 @@ pub(crate) fn powers_sum(ck: &[f64; 200], nm: u32) -> f64
     let mut j: u32 = 0;
     while j < nm {
         sum = sum + ck[j as usize];
-        if joining::sums::settled(sum, sw) {
+        if expansion::sums::settled(sum, sw) {
             return sum;
         }
         sw = sum;
@@ -45,16 +45,16 @@ fn r2_of(c: f64, m: u32) -> f64
 }
 
 // The value where n - m is even and the derivative where it is odd; the other is zero.
-fn placed(ip: u32, v: f64) -> Kind
+fn placed(ip: u32, v: f64) -> Pair
     ensures { λ x. ⌜ x ≡ Rmn1.placed ip v ⌝ }
 {
     if ip == 0 {
-        return Kind {
+        return Pair {
             value: v,
             derivative: 0.0,
         };
     }
-    Kind {
+    Pair {
         value: 0.0,
         derivative: v,
     }
@@ -62,16 +62,17 @@ fn placed(ip: u32, v: f64) -> Kind
 
 // The first kind of the mode of order m and degree n, from its expansion coefficients df and its power
 // coefficients ck.
-pub(crate) fn rmn1(df: &[f64; 200], ck: &[f64; 200], m: u32, n: u32, c: f64) -> Kind
+pub(crate) fn rmn1(df: &[f64; 200], ck: &[f64; 200], m: u32, n: u32, c: f64) -> Pair
     requires { ⌜ Usable m n c ⌝ }
     ensures { λ x. ⌜ x ≡ Rmn1.rmn1 (now (df .entry)) (now (ck .entry)) m n c ⌝ }
 {
     let ip = (n - m) % 2;
     let nm = super::limits::first_terms(n - m, c);
     let reg = expansion::sckb::regulator(m, nm);
-    let suc = joining::sums::expansion_sum(Test::Product, df, m, ip, (n - m) / 2, nm, reg);
+    // The source calls it suc.
+    let df_sum = joining::sums::expansion_sum(Test::Product, df, m, ip, (n - m) / 2, nm, reg);
     let sum = powers_sum(ck, nm);
     let below = joining::sums::sa0_below(m, n, ip, c, r2_of(c, m));
     let sa0 = joining::sums::sa0_above(m, n, ip) / below;
-    placed(ip, sum / (sa0 * suc) * df[0] * reg)
+    placed(ip, sum / (sa0 * df_sum) * df[0] * reg)
 }

@@ -2,21 +2,21 @@
 ghost use mathlib.Core.Path.{_≡_};
 ghost use Rattle.expansion.specs.Terms.{Usable};
 ghost use Rattle.disc.specs.Rmn2so as Rmn2so;
-use super::rmn1::Kind;
+use super::rmn1::Pair;
 
 // The second kind from the first at zero, qs and the disc's first coefficient. The factor is the
 // double nearest to pi/2.
-fn combined(ip: u32, r1: f64, qs: f64, bk0: f64) -> Kind
+fn combined(ip: u32, r1: f64, qs: f64, bk0: f64) -> Pair
     ensures { λ x. ⌜ x ≡ Rmn2so.combined ip r1 qs bk0 ⌝ }
 {
     let joined = -1.5707963267948966 * qs * r1;
     if ip == 0 {
-        return Kind {
+        return Pair {
             value: joined,
             derivative: qs * r1 + bk0,
         };
     }
-    Kind {
+    Pair {
         value: bk0,
         derivative: joined,
     }
@@ -24,12 +24,12 @@ fn combined(ip: u32, r1: f64, qs: f64, bk0: f64) -> Kind
 
 // The second kind of the mode of order m and degree n, from its expansion coefficients df and its
 // power coefficients ck: 1e300 twice where the first coefficient is too small to divide by.
-pub(crate) fn rmn2so(df: &[f64; 200], ck: &[f64; 200], m: u32, n: u32, c: f64, cv: f64) -> Kind
+pub(crate) fn rmn2so(df: &[f64; 200], ck: &[f64; 200], m: u32, n: u32, c: f64, cv: f64) -> Pair
     requires { ⌜ Usable m n c ⌝ }
     ensures { λ x. ⌜ x ≡ Rmn2so.rmn2so (now (df .entry)) (now (ck .entry)) m n c cv ⌝ }
 {
     if arith::abs(df[0]) <= 1e-280 {
-        return Kind {
+        return Pair {
             value: 1e300,
             derivative: 1e300,
         };

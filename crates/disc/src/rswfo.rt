@@ -3,11 +3,11 @@
 ghost use mathlib.Core.Path.{_≡_};
 ghost use Rattle.expansion.specs.Terms.{Usable};
 ghost use Rattle.disc.specs.Rswfo as Rswfo;
-use super::rmn1::Kind;
+use super::rmn1::Pair;
 
 pub struct Radial {
-    pub first: Kind,
-    pub second: Kind,
+    pub first: Pair,
+    pub second: Pair,
 }
 
 // Both kinds of the oblate mode of order m and degree n on the disc.

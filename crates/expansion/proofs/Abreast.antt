@@ -10,9 +10,9 @@ use lib.Ieee.{Float}
 use Rattle.arith.specs.Double.{_⊗_, at, #0·5}
 use Rattle.expansion.specs.declared.four.Term.{Term}
 use Rattle.expansion.specs.Products.{rising, risingBy}
-use Rattle.expansion.specs.Sums.{converged}
+use Rattle.expansion.specs.Sums.{settled}
 use Rattle.expansion.specs.Sckb.{terms, firstFactor, sumOf}
-use Rattle.expansion.specs.Four.{nextTerm, termPastFirst, restOf, sumFrom}
+use Rattle.expansion.specs.Inside.Four.{nextTerm, termPastFirst, restOf, sumFrom}
 use Rattle.expansion.proofs.Laws.{terms-stop, terms-on}
 
 -- a product goes on where it stopped
@@ -31,7 +31,7 @@ unfolding firstFactor
 factor-is m ip k j s a reg w p x hw hs hp ha hx = hx ∙ rw (hp, rise-on w a #0·5 k j, hw, hs, ha)
 
 -- a term that does not end the sum
-pub rest-on : (df : List Float) (m ip nm k i j : ℕ) (t u : Term) → i ≤ nm → j ≡ i + 1 → u ≡ nextTerm df m ip k i t → converged (t .sum) (u .sum) ≡ false
+pub rest-on : (df : List Float) (m ip nm k i j : ℕ) (t u : Term) → i ≤ nm → j ≡ i + 1 → u ≡ nextTerm df m ip k i t → settled (u .sum) (t .sum) ≡ false
     → restOf df m ip nm k j u ≡ restOf df m ip nm k i t
 rest-on df m ip nm k i j t u h hj e v =
     let a : suc nm - i ≡ suc (nm - i) = omega arith in
@@ -40,11 +40,11 @@ rest-on df m ip nm k i j t u h hj e v =
 
 -- the term past the first ends the sum, or it goes on
 module _ (df : List Float) (m ip nm k : ℕ) (t : Term) (sw : Float) where
-  pub from-stop : converged sw (t .sum) ≡ true → record { sum = t .sum; sw = sw } ≡ sumFrom df m ip nm k t sw
+  pub from-stop : settled (t .sum) sw ≡ true → record { sum = t .sum; sw = sw } ≡ sumFrom df m ip nm k t sw
   unfolding sumFrom
   from-stop h = sym (rw (h, sumFrom))
 
-  pub from-on : converged sw (t .sum) ≡ false → restOf df m ip nm k (k + 2) t ≡ sumFrom df m ip nm k t sw
+  pub from-on : settled (t .sum) sw ≡ false → restOf df m ip nm k (k + 2) t ≡ sumFrom df m ip nm k t sw
   unfolding sumFrom
   from-on h = sym (rw (h, sumFrom))
 
@@ -54,7 +54,7 @@ unfolding sumOf
 sum-from df m ip nm k reg t sw l e =
     let left : nm - k ≡ suc (nm - (k + 1)) = omega arith in
     let one : suc k ≡ k + 1 = omega arith in
-    rw (e, left, one) (go (converged sw (u .sum)) refl)
+    rw (e, left, one) (go (settled (u .sum) sw) refl)
   where
     r : Float
     r = firstFactor m ip reg k
@@ -62,7 +62,7 @@ sum-from df m ip nm k reg t sw l e =
     u : Term
     u = termPastFirst df m ip reg k
 
-    go : (b : Bool) → converged sw (u .sum) ≡ b → sumFrom df m ip nm k u sw ≡ terms df m ip k (suc (nm - (k + 1))) (k + 1) r (r ⊗ at df k) sw
+    go : (b : Bool) → settled (u .sum) sw ≡ b → sumFrom df m ip nm k u sw ≡ terms df m ip k (suc (nm - (k + 1))) (k + 1) r (r ⊗ at df k) sw
     go true h = sym (from-stop df m ip nm k u sw h) ∙ terms-stop df m ip k (nm - (k + 1)) (k + 1) r _ (r ⊗ at df k) sw refl h
     go false h =
         let a : suc nm - (k + 2) ≡ nm - (k + 1) = omega arith in

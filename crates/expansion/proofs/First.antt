@@ -13,7 +13,8 @@ use Rattle.arith.specs.Powers.{halfTo}
 use Rattle.expansion.specs.declared.sckb.Carried.{Carried}
 use Rattle.expansion.specs.Sums.{blank}
 use Rattle.expansion.specs.Terms.{powerTermsOf}
-use Rattle.expansion.specs.Sckb.{regulator, factorial, filled, sckb, StandsFor}
+use Rattle.expansion.specs.Sckb.{regulator, factorial, filled, sckb}
+use Rattle.expansion.specs.Inside.Carried.{StandsFor}
 
 -- a place before the k-th keeps what it holds
 filled-before : (df : List Float) (m ip nm k n i : ℕ) → i < k → k ≤ n → at (filled df m ip nm k .ck) i ≡ at (filled df m ip nm n .ck) i

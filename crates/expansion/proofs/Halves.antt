@@ -8,18 +8,18 @@ use native.Mathlib.Nat.{le-of-eq, lt-of-le-of-lt, lt-of-lt-of-le, zero-mul, zero
 use borrow.Author.Tests.{ltb-true, ltb-false, lt-ltb, le-ltb}
 use lib.Dec.{T, ltb, eqb, ltb→lt, eqb→eq}
 use lib.Pow.{shl-lt, pow-mono}
-use lib.IntN.{ℤ, pos, negℤ}
-use lib.Ieee.{Float, nan, inf, fin, binary64, up, down, round, sum, add, div, lt, le, eq, ofInt, ofBits, toSigned}
+use lib.IntN.{ℤ}
+use lib.Ieee.{Float, nan, inf, fin, binary64, up, down, round, sum, add, div, lt, le, eq, ofInt, ofBits, toUnsigned}
 use lib.Ieee.Back.{round-whole}
 use lib.Ieee.Exact.{HasValue, round-exact}
 use lib.Ieee.Fits.{down-pos}
 use lib.Ieee.Order.{round-mono, transfer}
 use lib.Ieee.Scale.{round-same}
 use Rattle.arith.specs.Double.{_⊕_, _⊘_, dbl, #0, #2}
-use Rattle.arith.specs.Truncation.{truncate}
+use Rattle.arith.specs.Truncation.{wholePart}
 use Rattle.arith.proofs.Flags.{not-taken, not-left}
 use Rattle.arith.proofs.Unsigned.{Unsigned, dbl-unsigned, sum-unsigned}
-use Rattle.expansion.specs.Terms.{halfSum, #175}
+use Rattle.expansion.specs.Terms.{hOf, #175}
 
 -- ---- a sum of two doubles that are not below zero is one rounded fraction, -0 included
 sum-is : (m : ℕ) (e : ℤ) (s : Bool) (n : ℕ) (d : ℤ) → lt (fin s n d) #0 ≡ false → fin false m e ⊕ fin s n d ≡ round binary64 false (m * up e * down d + n * up d * down e) (down e * down d)
@@ -115,17 +115,17 @@ half-value n h = go (round binary64 false n 1) (round-whole binary64 false n (om
         subst (λ (x : Float). HasValue x false n 2) (sym (round-same binary64 false (m * up e * 1) (2 * down e) n 2 (mul-pos (omega arith) (down-pos e)) (omega arith) (double (m * up e) (down e) (p .1)))) exact
 
 -- ---- w + c is below 175
-pub half-below : (offset : ℕ) (c : Float) → offset < 200 → lt c #0 ≡ false → lt (halfSum offset c) #175 ≡ true → lt (dbl (offset / 2) ⊕ c) #175 ≡ true
+pub half-below : (offset : ℕ) (c : Float) → offset < 200 → lt c #0 ≡ false → lt (hOf offset c) #175 ≡ true → lt (dbl (offset / 2) ⊕ c) #175 ≡ true
 unfolding ofInt
 half-below offset c o p q = smaller-sum (dbl (offset / 2)) (dbl offset ⊘ #2) c (offset / 2) offset (round-whole binary64 false (offset / 2) (omega arith)) (half-value offset (omega arith)) (omega arith) p q
 
 -- ---- so is w plus the whole part of c
-whole-below : (x : Float) (n : ℕ) → HasValue x false n 1 → lt x #175 ≡ true → n < 175
+number-below : (x : Float) (n : ℕ) → HasValue x false n 1 → lt x #175 ≡ true → n < 175
 unfolding lt ofBits
-whole-below nan n v h = absurd v
-whole-below (inf s) n v h = absurd v
-whole-below (fin true m e) n v h = not-left (v .0)
-whole-below (fin false m e) n v h = lt-of-mul-lt-mul-right (down e) (subst (λ (z : ℕ). z < 175 * down e) (v .1) (ltb-true (m * up e * 1) (175 * down e) h))
+number-below nan n v h = absurd v
+number-below (inf s) n v h = absurd v
+number-below (fin true m e) n v h = not-left (v .0)
+number-below (fin false m e) n v h = lt-of-mul-lt-mul-right (down e) (subst (λ (z : ℕ). z < 175 * down e) (v .1) (ltb-true (m * up e * 1) (175 * down e) h))
 
 order : (w t e g m i : ℕ) → m * 1 ≡ w * e → t * g ≤ i → (w + t) * (e * g) ≤ (m * g + i * e) * 1
 order w t e g m i h k =
@@ -135,18 +135,15 @@ order w t e g m i h k =
     more : (a b c : ℕ) → b ≤ c → a + b ≤ a + c
     more a b c h = omega arith
 
-clip : (t : ℕ) → t < 175 → min t (2 ^ 31 - 1) ≡ t
-clip t h = omega arith
-
-part-below : (x c : Float) (w : ℕ) → HasValue x false w 1 → lt c #0 ≡ false → lt (x ⊕ c) #175 ≡ true → (t : ℕ) × (truncate c ≡ pos t) × (w + t < 175)
-unfolding add lt ofBits toSigned ofInt
+part-below : (x c : Float) (w : ℕ) → HasValue x false w 1 → lt c #0 ≡ false → lt (x ⊕ c) #175 ≡ true → w + wholePart c < 175
+unfolding add lt ofBits toUnsigned ofInt
 part-below nan c w p z k = absurd p
 part-below (inf s) c w p z k = absurd p
 part-below (fin true m e) c w p z k = not-left (p .0)
 part-below (fin false m e) nan w p z k = not-taken k
 part-below (fin false m e) (inf true) w p z k = not-left z
 part-below (fin false m e) (inf false) w p z k = not-taken k
-part-below (fin false m e) (fin s i g) w p z k = (t, whole s z, small)
+part-below (fin false m e) (fin s i g) w p z k = cut s
   where
     t : ℕ
     t = i * up g / down g
@@ -166,22 +163,17 @@ part-below (fin false m e) (fin s i g) w p z k = (t, whole s z, small)
 
     below : n < 175
     below =
-        whole-below (dbl n) n (round-whole binary64 false n few)
+        number-below (dbl n) n (round-whole binary64 false n few)
         (still-below (dbl n) (fin false m e ⊕ fin s i g) (dbl-unsigned n) (sum-unsigned (fin false m e) (fin s i g) refl z)
         (rw (sum-is m e s i g z) (round-mono binary64 n 1 (m * up e * down g + i * up g * down e) (down e * down g) (omega arith) (mul-pos (down-pos e) (down-pos g)) ordered)) k)
 
     small : w + t < 175
     small = let h = below in omega (arith, h)
 
-    zero-left : (x y : ℕ) → x * 1 + y ≤ 0 → x ≡ 0
-    zero-left x y h = omega arith
+    cut : (s : Bool) → w + wholePart (fin s i g) < 175
+    cut false = let h = small in omega (arith, h)
+    cut true = let h = small in omega (arith, h)
 
-    whole : (s : Bool) → lt (fin s i g) #0 ≡ false → truncate (fin s i g) ≡ pos t
-    whole false z = ap pos (clip t (let h = small in omega (arith, h)))
-    whole true z =
-        let none : t ≡ 0 = ap (λ (a : ℕ). a / down g) (zero-left (i * up g) (0 * 1 * down g) (ltb-false 0 (i * up g * 1 + 0 * 1 * down g) z)) ∙ zero-div (down g) in
-        ap (λ (a : ℕ). negℤ (pos (min a (2 ^ 31)))) none ∙ ap pos (sym none)
-
-pub whole-and-part : (offset : ℕ) (c : Float) → offset < 200 → lt c #0 ≡ false → lt (halfSum offset c) #175 ≡ true → (t : ℕ) × (truncate c ≡ pos t) × (offset / 2 + t < 175)
+pub whole-and-part : (offset : ℕ) (c : Float) → offset < 200 → lt c #0 ≡ false → lt (hOf offset c) #175 ≡ true → offset / 2 + wholePart c < 175
 unfolding ofInt
 whole-and-part offset c o p q = part-below (dbl (offset / 2)) c (offset / 2) (round-whole binary64 false (offset / 2) (omega arith)) p (half-below offset c o p q)

@@ -7,39 +7,34 @@ use mathlib.Core.List.{List}
 use native.Mathlib.Omega.{arith}
 use native.Mathlib.Numerals.{add-one}
 use native.Mathlib.Nat.{sub-zero, eq-or-lt-of-le}
-use lib.IntN.{ℤ, pos, natAbs}
 use lib.Ieee.{Float, neg, lt, le, add, div, ofInt, ofBits}
 use lib.ListN.{set}
-use mir.Syntax.{w32}
-use mir.Val.{toZ, ofZ}
-use Rattle.arith.specs.Double.{_⊕_, _⊗_, _⊘_, dbl, at, #0, #2, #1e-10}
-use Rattle.arith.specs.Truncation.{truncate}
+use Rattle.arith.specs.Double.{_⊕_, _⊗_, _⊘_, dbl, at, #1e-10}
+use Rattle.arith.specs.Truncation.{wholePart}
 use Rattle.arith.proofs.Flags.{not-taken}
-use Rattle.arith.proofs.Laws.{truncate-sum-below, reads-back, half-unsigned}
+use Rattle.arith.proofs.Laws.{whole-below}
 use Rattle.expansion.specs.declared.sdmn.Recurrence.{Recurrence}
 use Rattle.expansion.specs.declared.sckb.Partial.{Partial}
-use Rattle.expansion.specs.Sums.{converged, blank}
-use Rattle.expansion.specs.Terms.{halfSum, termsOf, clamped, #175}
+use Rattle.expansion.specs.Sums.{settled, blank}
+use Rattle.expansion.specs.Terms.{hOf, clamped, #175}
 use Rattle.expansion.specs.Products.{rising}
 use Rattle.expansion.specs.Sdmn.{below, above, exceeds, reduced, reducedPlaces, storedBelow, descend, descended, downward, climbed, ascended, upward, sumPast, factorAt, normOf, normalised, scaled, expanded}
 use Rattle.expansion.specs.declared.sckb.Carried.{Carried}
-use Rattle.expansion.specs.Sckb.{terms, sumOf, valueOf, filled, regulator, Stands}
+use Rattle.expansion.specs.Sckb.{terms, sumOf, valueOf, filled, regulator}
+use Rattle.expansion.specs.Inside.Carried.{Stands}
 use Rattle.expansion.specs.Sckb as Sckb
 
 -- ---- how far the sums run
 
--- the whole part of H, and as the machine reads it back
-pub terms-whole : (offset : ℕ) (c : Float) (z : ℤ) → lt c #0 ≡ false → lt (halfSum offset c) #175 ≡ true → z ≡ truncate (halfSum offset c)
-    → (t : ℕ) × (toZ w32 (ofZ w32 z) ≡ pos t) × (t < 175) × (25 + t ≡ termsOf offset c)
-unfolding termsOf ofBits
-terms-whole offset c z p q e =
-    let k = truncate-sum-below (dbl offset ⊘ #2) c #175 175 (half-unsigned offset) (refl, refl) (omega arith) (omega arith) p q in
-    (k .0, reads-back z (k .0) (e ∙ k .1) (omega (arith, k .2)), k .2, ap (λ (z : ℤ). 25 + natAbs z) (sym (k .1)))
+-- what is below 175 has a whole part below 175
+pub whole-few : (x : Float) → lt x #175 ≡ true → wholePart x < 175
+unfolding ofBits
+whole-few x h = whole-below x #175 175 (refl, refl) (omega arith) h
 
--- for each offset below n, (offset)/2 + 1e-10 is below 175
+-- for each offset below n, H with a c of 1e-10 is below 175
 tiny-sums : ℕ → Bool
 tiny-sums zero = true
-tiny-sums (suc k) = cond (lt (halfSum k #1e-10) #175) (tiny-sums k) false
+tiny-sums (suc k) = cond (lt (hOf k #1e-10) #175) (tiny-sums k) false
 
 tiny-sums-200 : tiny-sums 200 ≡ true
 unfolding tiny-sums lt add div ofInt ofBits
@@ -49,22 +44,21 @@ both : (a b : Bool) → cond a b false ≡ true → (a ≡ true) × (b ≡ true)
 both true b h = (refl, h)
 both false b h = not-taken h
 
-tiny-sum : (n k : ℕ) → tiny-sums n ≡ true → k < n → lt (halfSum k #1e-10) #175 ≡ true
+tiny-sum : (n k : ℕ) → tiny-sums n ≡ true → k < n → lt (hOf k #1e-10) #175 ≡ true
 unfolding tiny-sums
 tiny-sum zero k h l = absurd (omega arith)
 tiny-sum (suc n) k h l =
-    let p = both (lt (halfSum n #1e-10) #175) (tiny-sums n) h in
+    let p = both (lt (hOf n #1e-10) #175) (tiny-sums n) h in
     ⊎-elim (λ q. rw q (p .0)) (λ q. tiny-sum n k (p .1) q) (eq-or-lt-of-le {n = k} {m = n} (omega arith))
 
--- what `terms` asks, of the c that `sckb` takes
-pub clamped-usable : (offset : ℕ) (c : Float) → offset < 200 → lt c #0 ≡ false → lt (halfSum offset c) #175 ≡ true
-    → (lt (clamped c) #0 ≡ false) × (lt (halfSum offset (clamped c)) #175 ≡ true)
-unfolding clamped lt ofBits
-clamped-usable offset c o p q = go (le c #1e-10)
+-- H stays below 175 with the c that `sckb` takes
+pub clamped-below : (offset : ℕ) (c : Float) → offset < 200 → lt (hOf offset c) #175 ≡ true → lt (hOf offset (clamped c)) #175 ≡ true
+unfolding clamped
+clamped-below offset c o q = go (le c #1e-10)
   where
-    go : (t : Bool) → (lt (cond t #1e-10 c) #0 ≡ false) × (lt (halfSum offset (cond t #1e-10 c)) #175 ≡ true)
-    go true = (refl, tiny-sum 200 offset tiny-sums-200 o)
-    go false = (p, q)
+    go : (t : Bool) → lt (hOf offset (cond t #1e-10 c)) #175 ≡ true
+    go true = tiny-sum 200 offset tiny-sums-200 o
+    go false = q
 
 -- ---- the downward pass at place k
 module _ (r : Recurrence) (nm : ℕ) (f1 f0 f : Float) (df : List Float) where
@@ -87,11 +81,11 @@ climb-on r kb left i f1 f2 f a b df xs ys hf hx hy ha hb = rw (ha, hb, hy, hx, h
 
 -- ---- a term of the sum past the joint
 module _ (df : List Float) (m ip left k : ℕ) (r1 r su2 sw : Float) (hr : r ≡ factorAt m ip k r1) where
-  pub past-stop : converged sw (su2 ⊕ r ⊗ at df (k - 1)) ≡ true → su2 ⊕ r ⊗ at df (k - 1) ≡ sumPast df m ip (suc left) k r1 su2 sw
+  pub past-stop : settled (su2 ⊕ r ⊗ at df (k - 1)) sw ≡ true → su2 ⊕ r ⊗ at df (k - 1) ≡ sumPast df m ip (suc left) k r1 su2 sw
   unfolding sumPast
   past-stop h = rw hr (sym (rw (rw hr at h, sumPast)))
 
-  pub past-on : converged sw (su2 ⊕ r ⊗ at df (k - 1)) ≡ false → sumPast df m ip left (suc k) r (su2 ⊕ r ⊗ at df (k - 1)) (su2 ⊕ r ⊗ at df (k - 1)) ≡ sumPast df m ip (suc left) k r1 su2 sw
+  pub past-on : settled (su2 ⊕ r ⊗ at df (k - 1)) sw ≡ false → sumPast df m ip left (suc k) r (su2 ⊕ r ⊗ at df (k - 1)) (su2 ⊕ r ⊗ at df (k - 1)) ≡ sumPast df m ip (suc left) k r1 su2 sw
   unfolding sumPast
   past-on h = rw hr (sym (rw (rw hr at h, sumPast)))
 
@@ -103,11 +97,11 @@ expanded-is r n nm kb fl fs s0 b d u v w hb hd hu hs hv hw = let e = sym (rw hb 
 
 -- ---- a term of a power coefficient's sum
 module _ (df : List Float) (m ip k left i : ℕ) (r r' sum sw : Float) (hr : r' ≡ Sckb.nextFactor m ip k r i) where
-  pub terms-stop : converged sw (sum ⊕ r' ⊗ at df i) ≡ true → record { sum = sum ⊕ r' ⊗ at df i; sw = sw } ≡ terms df m ip k (suc left) i r sum sw
+  pub terms-stop : settled (sum ⊕ r' ⊗ at df i) sw ≡ true → record { sum = sum ⊕ r' ⊗ at df i; sw = sw } ≡ terms df m ip k (suc left) i r sum sw
   unfolding terms
   terms-stop h = rw hr (sym (rw (rw hr at h, terms)))
 
-  pub terms-on : converged sw (sum ⊕ r' ⊗ at df i) ≡ false → terms df m ip k left (suc i) r' (sum ⊕ r' ⊗ at df i) (sum ⊕ r' ⊗ at df i) ≡ terms df m ip k (suc left) i r sum sw
+  pub terms-on : settled (sum ⊕ r' ⊗ at df i) sw ≡ false → terms df m ip k left (suc i) r' (sum ⊕ r' ⊗ at df i) (sum ⊕ r' ⊗ at df i) ≡ terms df m ip k (suc left) i r sum sw
   unfolding terms
   terms-on h = rw hr (sym (rw (rw hr at h, terms)))
 

@@ -3,4 +3,4 @@ pub mod Products
 pub mod Sums
 pub mod Sdmn
 pub mod Sckb
-pub mod Four
+pub mod Inside

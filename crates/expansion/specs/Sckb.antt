@@ -1,6 +1,5 @@
 -- The coefficients of the powers of 1 − x² (`sckb`), in the order and with the names of the source. Definitions only.
-use Prim.Native.Nat.{ℕ, zero, suc, _+_, _-_, _*_, _%_, _≤_}
-use mathlib.Core.Path.{_≡_}
+use Prim.Native.Nat.{ℕ, zero, suc, _+_, _-_, _*_, _%_}
 use mathlib.Core.Bool.{true, false, cond}
 use mathlib.Core.List.{List}
 use lib.Dec.{ltb}
@@ -9,10 +8,9 @@ use lib.ListN.{set}
 use Rattle.arith.specs.Double.{_⊕_, _⊖_, _⊗_, _⊘_, dbl, at, #0, #0·5, #1, #2, #1e-200}
 use Rattle.arith.specs.Powers.{halfTo}
 use Rattle.expansion.specs.declared.sckb.Partial.{Partial}
-use Rattle.expansion.specs.declared.sckb.Carried.{Carried}
 use Rattle.expansion.specs.Terms.{powerTermsOf}
 use Rattle.expansion.specs.Products.{rising, risingBy}
-use Rattle.expansion.specs.Sums.{converged, blank}
+use Rattle.expansion.specs.Sums.{settled, blank}
 
 -- large orders are taken down by 1e-200
 unfoldable pub regulator : ℕ → ℕ → Float
@@ -26,13 +24,13 @@ nextFactor m ip k r i =
     let d3 = dbl (i + m + ip) ⊖ #0·5 in
     r ⊗ d2 ⊗ (d2 ⊖ #1) ⊗ dbl i ⊗ (d3 ⊕ dbl k) ⊘ (d1 ⊗ (d1 ⊖ #1) ⊗ dbl (i - k) ⊗ d3)
 
--- `left` more terms from term i on, until the sum has converged. sw is the sum remembered; a sum that has converged is not
+-- `left` more terms from term i on, until the sum has settled. sw is the sum remembered; a sum that has settled is not
 unfoldable pub terms : List Float → ℕ → ℕ → ℕ → ℕ → ℕ → Float → Float → Float → Partial
 terms df m ip k zero i r sum sw = record { sum = sum; sw = sw }
 terms df m ip k (suc left) i r sum sw =
     let r' = nextFactor m ip k r i in
     let sum' = sum ⊕ r' ⊗ at df i in
-    elim (converged sw sum') [ true ↦ record { sum = sum'; sw = sw } | false ↦ terms df m ip k left (suc i) r' sum' sum' ]
+    elim (settled sum' sw) [ true ↦ record { sum = sum'; sw = sw } | false ↦ terms df m ip k left (suc i) r' sum' sum' ]
 
 -- the factor of the first term of coefficient k
 unfoldable pub firstFactor : ℕ → ℕ → Float → ℕ → Float
@@ -72,13 +70,3 @@ filled df m ip nm (suc k) =
 -- all of them
 unfoldable pub sckb : List Float → ℕ → ℕ → Float → List Float
 sckb df m n c = let nm = powerTermsOf (n - m) c in filled df m ((n - m) % 2) nm nm .ck
-
--- what the code carries from coefficient to coefficient is that, with the factorial of the next
-abbrev pub Stands : List Float → ℕ → ℕ → ℕ → Carried → List Float → Type 0
-Stands df m ip nm at ck =
-    let s = filled df m ip nm (at .k) in
-    (at .k ≤ nm) × (at .fac ≡ s .fac) × (at .sw ≡ s .sw) × (ck ≡ s .ck) × (at .r1 ≡ factorial (regulator m nm) (m + at .k))
-
--- the same for a mode
-abbrev pub StandsFor : List Float → ℕ → ℕ → Float → Carried → List Float → Type 0
-StandsFor df m n c at ck = Stands df m ((n - m) % 2) (powerTermsOf (n - m) c) at ck

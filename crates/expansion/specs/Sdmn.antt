@@ -12,7 +12,7 @@ use Rattle.expansion.specs.declared.sdmn.Recurrence.{Recurrence}
 use Rattle.expansion.specs.declared.sdmn.Sum.{Sum}
 use Rattle.expansion.specs.Terms.{termsOf}
 use Rattle.expansion.specs.Products.{rising, risingBy}
-use Rattle.expansion.specs.Sums.{converged, blank}
+use Rattle.expansion.specs.Sums.{settled, blank}
 
 -- ---- the recurrence: its a, d and g at place k, from 0 on, are those of document 01's row
 
@@ -128,13 +128,13 @@ sumUpTo df m ip kb = let r1 = rising #1 (m + ip + 1) (m + ip) in sumOn df m ip (
 unfoldable pub factorAt : ℕ → ℕ → ℕ → Float → Float
 factorAt m ip k r1 = cond (eqb k 1) r1 (nextFactor m ip k r1)
 
--- past the joint, `left` more terms from the k-th on, until the sum has converged
+-- past the joint, `left` more terms from the k-th on, until the sum has settled
 unfoldable pub sumPast : List Float → ℕ → ℕ → ℕ → ℕ → Float → Float → Float → Float
 sumPast df m ip zero k r1 su2 sw = su2
 sumPast df m ip (suc left) k r1 su2 sw =
     let r = factorAt m ip k r1 in
     let s = su2 ⊕ r ⊗ at df (k - 1) in
-    elim (converged sw s) [ true ↦ s | false ↦ sumPast df m ip left (suc k) r s s ]
+    elim (settled s sw) [ true ↦ s | false ↦ sumPast df m ip left (suc k) r s s ]
 
 -- ---- the normalisation
 

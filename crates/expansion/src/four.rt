@@ -7,7 +7,7 @@ ghost use Rattle.arith.specs.Double.{#0·5};
 ghost use Rattle.expansion.specs.Products.{rising, risingBy};
 ghost use Rattle.expansion.specs.Sums as Sums;
 ghost use Rattle.expansion.specs.Sckb as Sckb;
-ghost use Rattle.expansion.specs.Four as Four;
+ghost use Rattle.expansion.specs.Inside.Four as Four;
 use super::sckb::Partial;
 
 // A product for each of the coefficients k to k + 3.
@@ -127,14 +127,14 @@ fn term_past_first(df: &[f64; 200], m: u32, ip: u32, reg: f64, k: u32, r: f64) -
     )
 }
 
-// Whether one of the four sums has converged, t before and u after a term.
-fn one_converged(t: Terms, u: Terms) -> bool
-    ensures { λ r. ⌜ (r ≡ false → (Sums.converged (t .a .sum) (u .a .sum) ≡ false) × (Sums.converged (t .b .sum) (u .b .sum) ≡ false) × (Sums.converged (t .c .sum) (u .c .sum) ≡ false) × (Sums.converged (t .d .sum) (u .d .sum) ≡ false)) ⌝ }
+// Whether one of the four sums has settled, t before and u after a term.
+fn one_settled(t: Terms, u: Terms) -> bool
+    ensures { λ r. ⌜ (r ≡ false → (Sums.settled (u .a .sum) (t .a .sum) ≡ false) × (Sums.settled (u .b .sum) (t .b .sum) ≡ false) × (Sums.settled (u .c .sum) (t .c .sum) ≡ false) × (Sums.settled (u .d .sum) (t .d .sum) ≡ false)) ⌝ }
 {
-    let a = super::sums::converged(t.a.sum, u.a.sum);
-    let b = super::sums::converged(t.b.sum, u.b.sum);
-    let c = super::sums::converged(t.c.sum, u.c.sum);
-    let d = super::sums::converged(t.d.sum, u.d.sum);
+    let a = super::sums::settled(u.a.sum, t.a.sum);
+    let b = super::sums::settled(u.b.sum, t.b.sum);
+    let c = super::sums::settled(u.c.sum, t.c.sum);
+    let d = super::sums::settled(u.d.sum, t.d.sum);
     if a {
         return true;
     }
@@ -147,7 +147,7 @@ fn one_converged(t: Terms, u: Terms) -> bool
     d
 }
 
-// The terms that each of the four has, where the first of them has converged or run out of terms.
+// The terms that each of the four has, where the first of them has settled or run out of terms.
 struct Reached {
     // The next term of coefficient k; of k + 1 it is i + 1, and so on.
     i: u32,
@@ -169,7 +169,7 @@ fn together(df: &[f64; 200], m: u32, ip: u32, k: u32, nm: u32, first: Terms) -> 
             c: next_term(df, m, ip, k + 2, i + 2, terms.c),
             d: next_term(df, m, ip, k + 3, i + 3, terms.d),
         };
-        if one_converged(terms, next) {
+        if one_settled(terms, next) {
             return Reached { i, terms };
         }
         terms = next;
@@ -193,7 +193,7 @@ fn concluded(
     requires { ⌜ (m < 1000) × (ip < 2) × (k < i) × (i ≤ suc nm) × (nm < 200) × (Four.restOf (now df) m ip nm k i t ≡ Four.restOf (now df) m ip nm k (k + 2) first) ⌝ }
     ensures { λ x. ⌜ x ≡ Four.sumFrom (now (df .entry)) m ip nm k first sw ⌝ }
 {
-    if super::sums::converged(sw, first.sum) {
+    if super::sums::settled(first.sum, sw) {
         return Partial { sum: first.sum, sw };
     }
     super::sckb::sum_terms(df, m, ip, k, nm, i, t.r, t.sum, t.sum)

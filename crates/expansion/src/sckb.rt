@@ -7,6 +7,7 @@ ghost use Rattle.arith.specs.Double.{#0};
 ghost use Rattle.arith.specs.Powers.{halfTo};
 ghost use Rattle.expansion.specs.Terms as Terms;
 ghost use Rattle.expansion.specs.Sckb as Sckb;
+ghost use Rattle.expansion.specs.Inside.Carried.{Stands, StandsFor};
 use super::sums::Places;
 
 // A sum, and the sum remembered before it.
@@ -26,7 +27,7 @@ pub(crate) fn next_factor(m: u32, ip: u32, k: u32, r: f64, i: u32) -> f64
     r * d2 * (d2 - 1.0) * (i as f64) * (d3 + (k as f64)) / (d1 * (d1 - 1.0) * ((i - k) as f64) * d3)
 }
 
-// The terms of coefficient k from term i on, until the sum has converged. A sum that has converged is
+// The terms of coefficient k from term i on, until the sum has settled. A sum that has settled is
 // not remembered: sw stays as it was.
 pub(crate) fn sum_terms(
     df: &[f64; 200],
@@ -49,7 +50,7 @@ pub(crate) fn sum_terms(
     while i <= nm {
         r = next_factor(m, ip, k, r, i);
         sum = sum + r * df[i as usize];
-        if super::sums::converged(sw, sum) {
+        if super::sums::settled(sum, sw) {
             return Partial { sum, sw };
         }
         sw = sum;
@@ -138,8 +139,8 @@ fn fill_fours(
     start: Carried,
     ck: &mut [f64; 200],
 ) -> Carried
-    requires { ⌜ (m < 200) × (ip < 2) × (nm < 200) × (count ≤ nm) × (reg ≡ Sckb.regulator m nm) × Sckb.Stands (now df) m ip nm start (now ck) ⌝ }
-    ensures { λ x. ⌜ Sckb.Stands (now (df .entry)) m ip nm x (now (ck .exit)) ⌝ }
+    requires { ⌜ (m < 200) × (ip < 2) × (nm < 200) × (count ≤ nm) × (reg ≡ Sckb.regulator m nm) × Stands (now df) m ip nm start (now ck) ⌝ }
+    ensures { λ x. ⌜ Stands (now (df .entry)) m ip nm x (now (ck .exit)) ⌝ }
     ensures { λ x. ⌜ (start .k ≤ x .k) × (x .k ≤ max (start .k) count) ⌝ }
 {
     let mut at = start;
@@ -164,8 +165,8 @@ fn fill_rest(
     start: Carried,
     ck: &mut [f64; 200],
 ) -> Carried
-    requires { ⌜ (m < 200) × (ip < 2) × (nm < 200) × (count ≤ nm) × (reg ≡ Sckb.regulator m nm) × Sckb.Stands (now df) m ip nm start (now ck) ⌝ }
-    ensures { λ x. ⌜ Sckb.Stands (now (df .entry)) m ip nm x (now (ck .exit)) ⌝ }
+    requires { ⌜ (m < 200) × (ip < 2) × (nm < 200) × (count ≤ nm) × (reg ≡ Sckb.regulator m nm) × Stands (now df) m ip nm start (now ck) ⌝ }
+    ensures { λ x. ⌜ Stands (now (df .entry)) m ip nm x (now (ck .exit)) ⌝ }
     ensures { λ x. ⌜ x .k ≡ max (start .k) count ⌝ }
 {
     let mut at = start;
@@ -210,8 +211,8 @@ pub fn go_on(
     count: u32,
     ck: &mut [f64; 200],
 ) -> Carried
-    requires { ⌜ Terms.Usable m n c × Sckb.StandsFor (now df) m n c at (now ck) ⌝ }
-    ensures { λ x. ⌜ Sckb.StandsFor (now (df .entry)) m n c x (now (ck .exit)) ⌝ }
+    requires { ⌜ Terms.Usable m n c × StandsFor (now df) m n c at (now ck) ⌝ }
+    ensures { λ x. ⌜ StandsFor (now (df .entry)) m n c x (now (ck .exit)) ⌝ }
     ensures { λ x. ⌜ x .k ≡ max (at .k) (min count (Terms.powerTermsOf (n - m) c)) ⌝ }
 {
     let nm = super::terms::power_terms(n - m, c);

@@ -220,7 +220,7 @@ fn factor_at(m: u32, ip: u32, k: u32, r1: f64) -> f64
     next_factor(m, ip, k, r1)
 }
 
-// The sum over the coefficients past the joint, until it has converged.
+// The sum over the coefficients past the joint, until it has settled.
 fn sum_past(df: &[f64; 200], m: u32, ip: u32, kb: u32, nm: u32, first: f64) -> f64
     requires { ⌜ (m < 1000) × (ip < 2) × (kb ≤ nm) × (nm < 200) ⌝ }
     ensures { λ r. ⌜ r ≡ Sdmn.sumPast (now (df .entry)) m ip (nm - kb) (kb + 1) first #0 #0 ⌝ }
@@ -232,7 +232,7 @@ fn sum_past(df: &[f64; 200], m: u32, ip: u32, kb: u32, nm: u32, first: f64) -> f
     while k <= nm {
         r1 = factor_at(m, ip, k, r1);
         su2 = su2 + r1 * df[(k - 1) as usize];
-        if super::sums::converged(sw, su2) {
+        if super::sums::settled(su2, sw) {
             return su2;
         }
         sw = su2;

@@ -2,11 +2,11 @@
 ghost use mathlib.Core.Path.{_≡_};
 ghost use Rattle.expansion.specs.Sums as Sums;
 
-// The stopping test of a sum: it differs from the sum remembered by less than 1e-14 of itself.
-pub fn converged(sw: f64, sum: f64) -> bool
-    ensures { λ r. ⌜ r ≡ Sums.converged sw sum ⌝ }
+// The stopping test of a sum: it differs from the sum remembered, sw, by less than 1e-14 of itself.
+pub fn settled(sum: f64, sw: f64) -> bool
+    ensures { λ r. ⌜ r ≡ Sums.settled sum sw ⌝ }
 {
-    arith::abs(sw - sum) < arith::abs(sum) * 1e-14
+    arith::abs(sum - sw) < arith::abs(sum) * 1e-14
 }
 
 // Room for the coefficients of a mode.

@@ -12,9 +12,9 @@ use lib.ListN.{length, set}
 use lib.Seq.{getD-set-same, getD-set-other}
 use Rattle.arith.specs.Double.{_⊕_, _⊖_, _⊗_, _⊘_, at, #0}
 use Rattle.expansion.specs.Terms.{termsOf}
-use Rattle.expansion.specs.Sums.{blank}
+use Rattle.expansion.specs.Sums.{settled, blank}
 use Rattle.joining.specs.declared.sums.Test.{Test}
-use Rattle.joining.specs.Sums.{settled, nextFactor, stops, sumOn}
+use Rattle.joining.specs.Sums.{nextFactor, stops, sumOn}
 use Rattle.joining.specs.Qstar.{sAt, skOf, rOf, apUpTo}
 use Rattle.joining.specs.Cbk.{added, r1At, s1From, rightSides, vAt, wAt, Solved, solved, rows, eliminated, substituted, cbk}
 

@@ -1,18 +1,16 @@
 -- The disc's own coefficients (`cbk`), with the names of the source. Definitions only.
-use Prim.Native.Nat.{ℕ, zero, suc, _+_, _-_, _%_, _≤_}
-use mathlib.Core.Path.{_≡_}
+use Prim.Native.Nat.{ℕ, zero, suc, _+_, _-_, _%_}
 use mathlib.Core.Bool.{true, false, cond}
 use mathlib.Core.List.{List}
 use lib.Dec.{eqb, ltb}
 use lib.IntN.{ℤ, pos, natAbs, _+ℤ_, _-ℤ_}
 use lib.Signed.{ltZ}
 use lib.Ieee.{Float, binary64, ofInt}
-use lib.ListN.{set, replicate}
+use lib.ListN.{set}
 use Rattle.arith.specs.Double.{_⊕_, _⊖_, _⊗_, _⊘_, dbl, at, #0, #1, #2}
 use Rattle.expansion.specs.Terms.{termsOf}
-use Rattle.expansion.specs.Sums.{blank}
+use Rattle.expansion.specs.Sums.{settled, blank}
 use Rattle.expansion.specs.declared.sckb.Partial.{Partial}
-use Rattle.joining.specs.Sums.{settled}
 
 -- ---- the tridiagonal matrix: u is c × c but for its first place; v and w at j, from 1 on
 
@@ -57,13 +55,6 @@ rightSides ck m ip nm qt zero k sw bk = bk
 rightSides ck m ip nm qt (suc left) k sw bk =
     let p = s1From ck m ip k (nm + 1 - firstIndex m k) (firstIndex m k) #0 sw in
     rightSides ck m ip nm qt left (suc k) (p .sw) (set bk k (qt ⊗ p .sum))
-
--- r1 at i, from lo to nm, is kept in a list
-abbrev pub Holds : List Float → ℕ → ℕ → ℕ → ℕ → Type 0
-Holds r1 m k lo nm = (i : ℕ) → lo ≤ i → i ≤ nm → at r1 i ≡ r1At m i k
-
-unfoldable pub ones : List Float
-ones = replicate 200 #1
 
 -- ---- the elimination
 

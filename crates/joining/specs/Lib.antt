@@ -2,3 +2,4 @@ pub mod Sums
 pub mod Kmn
 pub mod Qstar
 pub mod Cbk
+pub mod Inside

@@ -8,17 +8,12 @@ use Rattle.arith.specs.Double.{_⊕_, _⊖_, _⊗_, _⊘_, dbl, at, #0, #1, #1�
 use Rattle.arith.specs.Choice.{abs}
 use Rattle.arith.specs.Powers.{twoTo}
 use Rattle.expansion.specs.Products.{rising}
+use Rattle.expansion.specs.Sums.{settled}
 use Rattle.expansion.specs.Sdmn.{r3Of}
 use Rattle.joining.specs.declared.sums.Test.{Test}
 use Rattle.joining.specs.declared.sums.Test.the-variants.{Quotient, Product}
 
--- ---- a sum has settled where it differs from the one before, sw, by less than 1e-14 of itself
-
--- the source's `(sum - sw).abs() < sum.abs() * eps`
-unfoldable pub settled : Float → Float → Bool
-settled sum sw = lt (abs (sum ⊖ sw)) (abs sum ⊗ #1e-14)
-
--- `kmn` divides instead: `((sum - sw) / sum).abs() < eps`
+-- a sum has settled where it differs from the one before, sw, by less than 1e-14 of itself: `kmn` divides, `rmn1` multiplies
 unfoldable pub settledBy : Test → Float → Float → Bool
 settledBy Quotient sum sw = lt (abs ((sum ⊖ sw) ⊘ sum)) #1e-14
 settledBy Product sum sw = settled sum sw

@@ -7,6 +7,7 @@ ghost use Rattle.arith.specs.Double.{at, #0};
 ghost use Rattle.expansion.specs.Terms.{Usable};
 ghost use Rattle.expansion.specs.Sums.{blank};
 ghost use Rattle.joining.specs.Cbk as Cbk;
+ghost use Rattle.joining.specs.Inside.Kept.{Holds, ones};
 use expansion::sckb::Partial;
 use expansion::sums::Places;
 
@@ -73,7 +74,7 @@ fn s1_from(
     sw0: f64,
 ) -> Partial
     requires { ⌜ (nm < 200) × (lo ≤ nm + 1) ⌝ }
-    requires { ⌜ Cbk.Holds (now r1) m k lo nm ⌝ }
+    requires { ⌜ Holds (now r1) m k lo nm ⌝ }
     ensures { λ x. ⌜ x ≡ Cbk.s1From (now (ck .entry)) m ip k (nm + 1 - lo) lo #0 sw0 ⌝ }
 {
     let mut s1 = 0.0;
@@ -81,7 +82,7 @@ fn s1_from(
     let mut i = lo as u32;
     while i <= nm {
         s1 = add_term(ck, m, ip, i, r1[i as usize], s1);
-        if super::sums::settled(s1, sw) {
+        if expansion::sums::settled(s1, sw) {
             return Partial { sum: s1, sw };
         }
         sw = s1;
@@ -92,7 +93,7 @@ fn s1_from(
 
 // Two hundred ones. Made by a call, an array is one value in the caller's proof.
 fn ones() -> Places
-    ensures { λ r. ⌜ r ≡ Cbk.ones ⌝ }
+    ensures { λ r. ⌜ r ≡ ones ⌝ }
 {
     [1.0; 200]
 }

@@ -3,13 +3,6 @@ ghost use mathlib.Core.Path.{_≡_};
 ghost use Prim.Native.Nat.{_+_, _<_, _≤_};
 ghost use Rattle.joining.specs.Sums as Sums;
 
-// Whether a sum differs from the one before by less than 1e-14 of itself.
-pub fn settled(sum: f64, sw: f64) -> bool
-    ensures { λ r. ⌜ r ≡ Sums.settled sum sw ⌝ }
-{
-    arith::abs(sum - sw) < arith::abs(sum) * 1e-14
-}
-
 // How a sum over the expansion coefficients is held against the one before.
 pub enum Test {
     // By their difference over the sum: `kmn`.
@@ -23,7 +16,7 @@ fn settled_by(test: Test, sum: f64, sw: f64) -> bool
 {
     match test {
         Test::Quotient => arith::abs((sum - sw) / sum) < 1e-14,
-        Test::Product => settled(sum, sw),
+        Test::Product => expansion::sums::settled(sum, sw),
     }
 }
 

@@ -7,19 +7,16 @@ use mathlib.Core.Bool.{Bool, true, false, cond, not, _||_}
 use mathlib.Core.List.{List, [], _∷_, _++_}
 use borrow.Author.Tests.{eqb-true, ltb-false, lt-ltb, le-ltb, le-leb, lt-leb, ne-eqb}
 use lib.Dec.{T, ltb, eqb}
-use lib.IntN.{ℤ, pos, natAbs}
 use lib.Ieee.{Float, nan, inf, fin, lt, eq, ne, div, ofBits}
 use lib.Ieee.Compare.{differs-from-itself}
 use lib.ListN.{length, replicate, set, take, drop, take-append-drop}
 use lib.Seq.{take-all, take-suc, take-suc-set, drop-drop, drop-set-lt}
-use mir.Syntax.{w32}
-use mir.Val.{toZ, ofZ}
 use Rattle.arith.specs.Double.{_⊘_, _⊗_, dbl, at, #0, #1, #2, #1e-10}
 use Rattle.arith.specs.Choice.{abs}
-use Rattle.arith.specs.Truncation.{truncate}
+use Rattle.arith.specs.Truncation.{wholePart}
 use Rattle.arith.proofs.Flags.{not-left}
-use Rattle.arith.proofs.Laws.{truncate-sum-below, reads-back, half-unsigned}
-use Rattle.expansion.specs.Terms.{Usable, #175}
+use Rattle.arith.proofs.Laws.{whole-below}
+use Rattle.expansion.specs.Terms.{hOf, Usable, #175}
 use Rattle.expansion.specs.Sdmn.{sdmn}
 use Rattle.segv.specs.Families.{bothFamilies}
 use Rattle.segv.specs.Row.{Slices, slices, writtenRow, Numbered, answer, segvRow}
@@ -30,7 +27,7 @@ use Rattle.angular.specs.Aswfa.{aswfa}
 use Rattle.modes.specs.declared.answers.Answer.the-variants.{Pair, Quadruple, Refused}
 use Rattle.modes.specs.declared.checking.Mode.{Mode}
 use Rattle.modes.specs.declared.checking.Kind.{Kind}
-use Rattle.modes.specs.Refusals.{outOfRange, noParameter, refusalOf, rowRefusal, modeRefusal, hOf, entriesOf, #291, signOf, tooManyTerms, notFinite}
+use Rattle.modes.specs.Refusals.{outOfRange, noParameter, refusalOf, rowRefusal, modeRefusal, entriesOf, #291, signOf, tooManyTerms, notFinite}
 use Rattle.modes.specs.Radial.{radialRefusal, radialKinds, radialOf}
 use Rattle.modes.specs.Angular.{outside, angularRefusal, angularPair, angularOf}
 use Rattle.modes.specs.Coefficients.{coefficientsOf}
@@ -105,14 +102,9 @@ none-applies false true c h = absurd (omega arith)
 none-applies false false true h = (refl, refl, refl)
 none-applies false false false h = absurd (omega arith)
 
--- H is not below zero where c is not, so that its whole part is a whole number
-h-whole : (x : Mode) → noParameter (x .c) ≡ false → lt (hOf x) #291 ≡ true → (t : ℕ) × (truncate (hOf x) ≡ pos t) × (t < 291)
-unfolding hOf ofBits
-h-whole x p l = truncate-sum-below (dbl (x .n - x .m) ⊘ #2) (x .c) #291 291 (half-unsigned (x .n - x .m)) (refl, refl) (omega arith) (omega arith) (not-negative (x .c) p) l
-
-passes : (limit : Float) (x : Mode) → refusalOf limit x ≡ 0 → (outOfRange x ≡ false) × (noParameter (x .c) ≡ false) × (lt (hOf x) limit ≡ true)
+passes : (limit : Float) (x : Mode) → refusalOf limit x ≡ 0 → (outOfRange x ≡ false) × (noParameter (x .c) ≡ false) × (lt (hOf (x .n - x .m) (x .c)) limit ≡ true)
 unfolding refusalOf
-passes limit x h = none-applies (outOfRange x) (noParameter (x .c)) (lt (hOf x) limit) h
+passes limit x h = none-applies (outOfRange x) (noParameter (x .c)) (lt (hOf (x .n - x .m) (x .c)) limit) h
 
 ranges : (x : Mode) → outOfRange x ≡ false → (x .m ≤ 199) × (x .m ≤ x .n) × (x .n - x .m ≤ 199)
 unfolding outOfRange
@@ -123,36 +115,29 @@ ranges x p =
 
 -- what the routines over coefficients ask
 pub usable : (x : Mode) → modeRefusal x ≡ 0 → Usable (x .m) (x .n) (x .c)
-unfolding hOf
 usable x h =
     let p = passes #175 x h in
     let r = ranges x (p .0) in
     (omega (arith, r), omega (arith, r), omega (arith, r), not-negative (x .c) (p .1), p .2)
 
-pub whole-part : (x : Mode) → rowRefusal x ≡ 0 → (t : ℕ) × (truncate (hOf x) ≡ pos t) × (t < 291)
-whole-part x h = let p = passes #291 x h in h-whole x (p .1) (p .2)
-
--- the whole part of H as the machine reads it back
-pub read-back : (x : Mode) (h : Float) (z : ℤ) → rowRefusal x ≡ 0 → h ≡ hOf x → z ≡ truncate h → (t : ℕ) × (toZ w32 (ofZ w32 z) ≡ pos t) × (t < 291) × (10 + t ≡ entriesOf x)
-unfolding entriesOf
-read-back x h z r hh hz =
-    let k = whole-part x r in
-    let e : z ≡ pos (k .0) = hz ∙ ap truncate hh ∙ k .1 in
-    (k .0, reads-back z (k .0) e (omega (arith, k .2)), k .2, ap (λ (z : ℤ). 10 + natAbs z) (sym (k .1)))
+-- the whole part of H
+pub whole-few : (x : Mode) → rowRefusal x ≡ 0 → wholePart (hOf (x .n - x .m) (x .c)) < 291
+unfolding ofBits
+whole-few x h = whole-below (hOf (x .n - x .m) (x .c)) #291 291 (refl, refl) (omega arith) (passes #291 x h .2)
 
 pub accepted : (x : Mode) → rowRefusal x ≡ 0 → Accepted x
 unfolding entriesOf
 accepted x h =
     let p = passes #291 x h in
     let r = ranges x (p .0) in
-    let k = whole-part x h in
+    let k = whole-few x h in
     record {
       order = r .0;
       rising = r .1;
       span = r .2;
       parameter = p .1;
-      some = rw (k .1) (omega arith);
-      few = rw (k .1) (omega (arith, k .2));
+      some = omega arith;
+      few = omega (arith, k);
     }
 
 -- a first refusal k leaves the number 0 only where k is 0; and so in an answer

@@ -2,11 +2,10 @@
 use Prim.Native.Nat.{ℕ, _+_, _-_}
 use mathlib.Core.Bool.{Bool, true, false, cond, _||_}
 use lib.Dec.{ltb}
-use lib.IntN.{natAbs}
 use lib.Ieee.{Float, nan, inf, fin, lt, neg}
-use Rattle.arith.specs.Double.{_⊕_, _⊘_, dbl, bits, #0, #1, #2}
-use Rattle.arith.specs.Truncation.{truncate}
-use Rattle.expansion.specs.Terms.{#175, termsOf}
+use Rattle.arith.specs.Double.{bits, #0, #1}
+use Rattle.arith.specs.Truncation.{wholePart}
+use Rattle.expansion.specs.Terms.{#175, hOf, termsOf}
 use Rattle.modes.specs.declared.checking.Kind.{Kind}
 use Rattle.modes.specs.declared.checking.Kind.the-variants.{Prolate, Oblate}
 use Rattle.modes.specs.declared.checking.Mode.{Mode}
@@ -16,13 +15,9 @@ unfoldable pub signOf : Kind → Float
 signOf Prolate = #1
 signOf Oblate = neg #1
 
--- H = (n − m)/2 + c in doubles
-unfoldable pub hOf : Mode → Float
-hOf x = dbl (x .n - x .m) ⊘ #2 ⊕ x .c
-
 -- K is 10 + H truncated
 unfoldable pub entriesOf : Mode → ℕ
-entriesOf x = 10 + natAbs (truncate (hOf x))
+entriesOf x = 10 + wholePart (hOf (x .n - x .m) (x .c))
 
 -- ---- the limit 291; 175 is `expansion`'s
 abbrev pub #291 : Float
@@ -40,7 +35,7 @@ noParameter (fin s m e) = lt (fin s m e) #0
 
 -- ---- the first of 4, 5 and 6 that applies, or 0 for none; 6 is that H is the limit or more
 unfoldable pub refusalOf : Float → Mode → ℕ
-refusalOf limit x = cond (outOfRange x) 4 (cond (noParameter (x .c)) 5 (cond (lt (hOf x) limit) 0 6))
+refusalOf limit x = cond (outOfRange x) 4 (cond (noParameter (x .c)) 5 (cond (lt (hOf (x .n - x .m) (x .c)) limit) 0 6))
 
 abbrev pub rowRefusal : Mode → ℕ
 rowRefusal x = refusalOf #291 x

@@ -1,6 +1,7 @@
 // A mode, its limits and its refusals.
 ghost use mathlib.Core.Path.{_≡_};
-ghost use Prim.Native.Nat.{_≤_};
+ghost use Prim.Native.Nat.{_-_, _≤_};
+ghost use Rattle.expansion.specs.Terms.{hOf};
 ghost use Rattle.modes.specs.Refusals as Refusals;
 
 pub enum Kind {
@@ -61,9 +62,9 @@ impl Mode {
     // Document 01's H: (n - m)/2 + c.
     fn h(self) -> f64
         requires { ⌜ self .m ≤ self .n ⌝ }
-        ensures { λ r. ⌜ r ≡ Refusals.hOf self ⌝ }
+        ensures { λ r. ⌜ r ≡ hOf (self .n - self .m) (self .c) ⌝ }
     {
-        ((self.n - self.m) as f64) / 2.0 + self.c
+        expansion::terms::h((self.n - self.m) as u32, self.c)
     }
 
     // 4, 5 or 6, the first that applies, or 0.
@@ -106,7 +107,7 @@ impl Mode {
         requires { ⌜ Refusals.rowRefusal self ≡ 0 ⌝ }
         ensures { λ r. ⌜ r ≡ Refusals.entriesOf self ⌝ }
     {
-        10 + (arith::truncate(self.h()) as u32)
+        10 + arith::whole_part(self.h())
     }
 
     // Whether N + m is above 200.

@@ -14,7 +14,7 @@ use lib.Ieee.Fits.{and-l, and-r, down-pos}
 use lib.Ieee.Positive.{num, den, positive, den-pos, own-value, value-pos, value→cross, positive-of-value}
 use lib.Ieee.Scale.{finite}
 use Rattle.arith.specs.Root.{floorRoot, nearestRoot, sqrt}
-use Rattle.arith.specs.Scaled.{IsScaled}
+use Rattle.arith.specs.Inside.Scaled.{IsScaled}
 use Rattle.arith.specs.NearestRoot.{NearestRoot, RootBelowMiddle, RootAboveMiddle}
 use Rattle.arith.proofs.root.Squares.{floorRoot-is, sq-lt-back, sq-odd, sq-suc, compared, Compared}
 use Rattle.arith.proofs.root.Pack.{bits-pos, bits-finite, units-fit, under}

@@ -1,4 +1,4 @@
--- The square root of a double above zero, from the number m * 2 ^ e / 2 ^ 2148 that it is: what `root_above_zero` returns is `root`. Assumes nothing.
+-- The square root of a double above zero, from the number m * 2 ^ e / 2 ^ 2148 that it is: what `root_above_zero` returns is `sqrt`. Assumes nothing.
 use mathlib.Core.Path.{_≡_, refl, sym, ap, _∙_, subst}
 use mathlib.Core.Logic.{_⊎_, inl, inr}
 use Prim.Native.Nat.{ℕ, zero, suc, _+_, _-_, _*_, _/_, _%_, _^_, _≤_, _<_, compare}
@@ -15,7 +15,7 @@ use lib.Ieee.Fits.{nearest-le}
 use lib.Ieee.Nearest.{nearest-ge}
 use lib.Ieee.Positive.{num, den, positive, den-pos, value→cross}
 use Rattle.arith.specs.Root.{rootSize, floorRoot, nearestRoot, roundedRoot, sqrt}
-use Rattle.arith.specs.Scaled.{IsScaled}
+use Rattle.arith.specs.Inside.Scaled.{IsScaled}
 use Rattle.arith.proofs.root.Squares.{four, floorRoot-is, sq-lt-back, nearestRoot-same}
 use Rattle.arith.proofs.root.Cases.{sqrt-positive}
 use Rattle.arith.proofs.root.Pack.{pattern-of}

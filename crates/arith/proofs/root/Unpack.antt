@@ -12,7 +12,7 @@ use lib.Ieee.{Float, nan, inf, fin, up, down, binary64, odd, ofFields}
 use lib.Ieee.Bits.{cond-no}
 use lib.Ieee.Exact.{HasValue, odd-sign}
 use Rattle.arith.specs.Double.{bits}
-use Rattle.arith.specs.Scaled.{IsScaled}
+use Rattle.arith.specs.Inside.Scaled.{IsScaled}
 use Rattle.arith.proofs.Fields.{bits-unsigned}
 
 -- ---- what a pattern below the infinity's is read as

@@ -4,7 +4,8 @@ use Prim.Native.Nat.{_+_, _-_, _*_, _/_, _%_, _≤_}
 use mathlib.Core.Path.{_≡_, sym, _∙_}
 use native.Mathlib.Omega.{arith}
 use denote.Ref.{now}
-use Rattle.expansion.specs.Sckb.{StandsFor, sckb}
+use Rattle.expansion.specs.Inside.Carried.{StandsFor}
+use Rattle.expansion.specs.Sckb.{sckb}
 use Rattle.expansion.proofs.First.{stands-first, stands-agrees}
 use Rattle.angular.proofs.Laws.{before-signs-same}
 use Rattle.angular.proofs.aswfa.in_stages.Statement.{statement}

@@ -12,7 +12,7 @@ use Rattle.arith.specs.Double.{_⊕_, _⊗_, at}
 use Rattle.arith.specs.Powers.{power}
 use Rattle.arith.proofs.Flags.{not-taken}
 use Rattle.angular.specs.Aswfa.{summed, valueTerm, su1Of}
-use Rattle.angular.specs.Stages.{Agree}
+use Rattle.angular.specs.Inside.Stages.{Agree}
 use Rattle.angular.proofs.Laws.{summed-stop, summed-on}
 use Rattle.angular.proofs.sums.su1_of.Statement.{statement}
 use Rattle.angular.proofs.sums.su1_of.Tie as tie
@@ -43,15 +43,15 @@ mul-r c = search needs
 element-copy-out-r : tie.Need-element-copy-out-r Inv-loop μ-loop
 element-copy-out-r c = search needs
 
-converged-requires : tie.Need-converged-requires Inv-loop μ-loop
-converged-requires c κs = search needs
+negligible-requires : tie.Need-negligible-requires Inv-loop μ-loop
+negligible-requires c κs = search needs
 
 returns : tie.Need-returns Inv-loop μ-loop
 returns c = let a = c .before .before .before .before .before .before .args in
     let l = c .before .before .before .before .loop in
     let all : (ys : List Float) → Agree (a .nm2 + 1) (now (a .ck)) ys → (more : ℕ) → l .su1 ⊕ at (now (a .ck)) (l .k) ⊗ l .p ≡ su1Of ys (a .x1) (a .nm2 + more) = λ ys same more.
     let h : suc (a .nm2 + more) - l .k ≡ suc (a .nm2 + more - l .k) = omega arith in
-    summed-stop (valueTerm ys (a .x1)) (a .nm2 + more - l .k) (l .k) _ (l .su1) (rw (l .inv .1, same (l .k) (omega arith))) (sym (c .before .converged .ensures) ∙ c .if1 .taken) ∙ rw h at (l .inv .2 ys same more) in
+    summed-stop (valueTerm ys (a .x1)) (a .nm2 + more - l .k) (l .k) _ (l .su1) (rw (l .inv .1, same (l .k) (omega arith))) (sym (c .before .negligible .ensures) ∙ c .if1 .taken) ∙ rw h at (l .inv .2 ys same more) in
     (rw (add-zero (a .nm2)) at (all (now (a .ck)) (λ i g. refl) 0), λ e ys same more. sym (all ys same more))
 
 add-k : tie.Need-add-k Inv-loop μ-loop
@@ -69,7 +69,7 @@ loop-again c = let a = c .before .before .before .before .before .before .args i
       λ ys same more.
           let h : suc (a .nm2 + more) - l .k ≡ suc (a .nm2 + more - l .k) = omega arith in
           let h' : suc (a .nm2 + more) - suc (l .k) ≡ a .nm2 + more - l .k = omega arith in
-          rw (add-one (l .k), h') (summed-on (valueTerm ys (a .x1)) (a .nm2 + more - l .k) (l .k) _ (l .su1) (rw (l .inv .1, same (l .k) (omega arith))) (sym (c .before .converged .ensures) ∙ c .if1 .left) ∙ rw h at (l .inv .2 ys same more)),
+          rw (add-one (l .k), h') (summed-on (valueTerm ys (a .x1)) (a .nm2 + more - l .k) (l .k) _ (l .su1) (rw (l .inv .1, same (l .k) (omega arith))) (sym (c .before .negligible .ensures) ∙ c .if1 .left) ∙ rw h at (l .inv .2 ys same more)),
     )
 
 returns-2 : tie.Need-returns-2 Inv-loop μ-loop
@@ -89,7 +89,7 @@ su1-of-spec =
     cast-r
     mul-r
     element-copy-out-r
-    converged-requires
+    negligible-requires
     returns
     add-k
     loop-less

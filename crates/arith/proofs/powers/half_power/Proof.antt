@@ -3,15 +3,12 @@ use borrow.Author.Needs.{needs}
 use Rattle.arith.proofs.powers.half_power.Statement.{statement}
 use Rattle.arith.proofs.powers.half_power.Tie as tie
 
--- src/lib.rt:107:5
 sqrt-requires : tie.Need-sqrt-requires
 sqrt-requires c κs = search needs
 
--- src/lib.rt:107:15
 power-requires : tie.Need-power-requires
 power-requires c κs = search needs
 
--- src/lib.rt:104:1
 returns : tie.Need-returns
 returns c = cc
 

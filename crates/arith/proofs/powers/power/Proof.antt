@@ -1,4 +1,4 @@
--- `arith::power` meets its contract. The loop's invariant: p is the power to the number of turns so far. Assumes nothing.
+-- `arith::powers::power` meets its contract. The loop's invariant: p is the power to the number of turns so far. Assumes nothing.
 use mathlib.Core.Path.{_≡_, refl, sym, ap, _∙_}
 use Prim.Native.Nat.{_-_, _≤_}
 use native.Mathlib.Nat.{le-antisymm}

@@ -1,4 +1,4 @@
--- `arith::nearest_root` meets its contract (`proofs/Newton.antt`, the halves of a root). Assumes nothing.
+-- `arith::root::nearest_root` meets its contract (`proofs/root/Newton.antt`, the halves of a root). Assumes nothing.
 use mathlib.Core.Path.{sym}
 use Prim.Native.Nat.{ℕ, _+_, _-_, _*_, _/_, _%_, _^_, _≤_}
 use native.Mathlib.Omega.{arith}

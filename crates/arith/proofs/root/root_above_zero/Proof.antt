@@ -1,4 +1,4 @@
--- `arith::root_above_zero` meets its contract: `proofs/root/Pack.antt` for the bits of x, and `proofs/root/Radicand.antt` for the result. Assumes nothing.
+-- `arith::root::root_above_zero` meets its contract: `proofs/root/Pack.antt` for the bits of x, and `proofs/root/Radicand.antt` for the result. Assumes nothing.
 use mathlib.Core.Path.{_≡_, sym, subst, ap, _∙_}
 use Prim.Native.Nat.{ℕ, _+_, _-_, _*_, _/_, _^_, _≤_, _<_}
 use native.Mathlib.Omega.{arith}

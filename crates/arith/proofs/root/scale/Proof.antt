@@ -1,4 +1,4 @@
--- `arith::scale` meets its contract (`proofs/root/Unpack.antt`). Assumes nothing.
+-- `arith::root::scale` meets its contract (`proofs/root/Unpack.antt`). Assumes nothing.
 use mathlib.Core.Path.{_≡_, _∙_}
 use Prim.Native.Nat.{_^_, _-_, _<_}
 use native.Mathlib.Nat.{mod-eq-of-lt}

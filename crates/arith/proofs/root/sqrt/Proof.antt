@@ -1,4 +1,4 @@
--- `arith::sqrt` meets its contract. The tests find which clause of `root` applies (`proofs/root/Cases.antt`). Assumes nothing.
+-- `arith::root::sqrt` meets its contract. The tests find which clause of `sqrt` applies (`proofs/root/Cases.antt`). Assumes nothing.
 use lib.Ieee.{ofBits, div}
 use borrow.Author.Needs.{needs}
 use Rattle.arith.proofs.root.Cases.{finite-above-zero, sqrt-infinite, sqrt-below-zero, sqrt-else}

@@ -3,7 +3,7 @@ use borrow.Author.Needs.{needs}
 use Prim.Native.Nat.{_+_, _-_, _<_, _≤_}
 use mathlib.Core.Path.{refl, _∙_}
 use native.Mathlib.Omega.{arith}
-use Rattle.expansion.specs.Four.{EndAlike}
+use Rattle.expansion.specs.Inside.Four.{EndAlike}
 use Rattle.expansion.proofs.Abreast.{rest-on}
 use mathlib.Core.Path.{refl}
 use Rattle.expansion.proofs.four.together.Statement.{statement}
@@ -54,8 +54,8 @@ add-next-term-6 c = search needs
 next-term-requires-4 : tie.Need-next-term-requires-4 Inv-loop μ-loop
 next-term-requires-4 c κs = search needs
 
-one-converged-requires : tie.Need-one-converged-requires Inv-loop μ-loop
-one-converged-requires c κs = search needs
+one-settled-requires : tie.Need-one-settled-requires Inv-loop μ-loop
+one-settled-requires c κs = search needs
 
 returns : tie.Need-returns Inv-loop μ-loop
 returns c = let l = c .before .before .before .before .before .before .before .loop .inv in (l .2, (l .0, l .1))
@@ -69,7 +69,7 @@ loop-less c = search needs
 loop-again : tie.Need-loop-again Inv-loop μ-loop
 loop-again c = let a = c .before .before .before .before .before .before .before .before .args in
     let l = c .before .before .before .before .before .before .before .loop in
-    let v = c .before .one-converged .ensures (c .if1 .left) in
+    let v = c .before .one-settled .ensures (c .if1 .left) in
     let e = l .inv .2 in (
       omega arith,
       omega arith,
@@ -103,7 +103,7 @@ together-spec =
     add-next-term-5
     add-next-term-6
     next-term-requires-4
-    one-converged-requires
+    one-settled-requires
     returns
     add-i-2
     loop-less

@@ -5,7 +5,7 @@ use mathlib.Core.Path.{_≡_}
 use native.Mathlib.Omega.{arith}
 use denote.Ref.{now}
 use Prim.Native.Nat.{max}
-use Rattle.expansion.specs.Sckb.{Stands}
+use Rattle.expansion.specs.Inside.Carried.{Stands}
 use Rattle.expansion.proofs.Laws.{put-on}
 use Rattle.expansion.proofs.sckb.fill_fours.Statement.{statement}
 use Rattle.expansion.proofs.sckb.fill_fours.Tie as tie

@@ -4,7 +4,7 @@ use Prim.Native.Nat.{_-_, _<_, _≤_}
 use native.Mathlib.Omega.{arith}
 use denote.Ref.{now}
 use Prim.Native.Nat.{max}
-use Rattle.expansion.specs.Sckb.{Stands}
+use Rattle.expansion.specs.Inside.Carried.{Stands}
 use Rattle.expansion.proofs.Laws.{put-on}
 use Rattle.expansion.proofs.sckb.fill_rest.Statement.{statement}
 use Rattle.expansion.proofs.sckb.fill_rest.Tie as tie

@@ -30,14 +30,14 @@ mul-sum c = search needs
 element-copy-out-sum : tie.Need-element-copy-out-sum Inv-loop μ-loop
 element-copy-out-sum c = search needs
 
-converged-requires : tie.Need-converged-requires Inv-loop μ-loop
-converged-requires c κs = search needs
+settled-requires : tie.Need-settled-requires Inv-loop μ-loop
+settled-requires c κs = search needs
 
 returns : tie.Need-returns Inv-loop μ-loop
 returns c = let a = c .before .before .before .before .before .before .args in
     let l = c .before .before .before .before .before .loop in
     let h : suc (a .nm) - l .i ≡ suc (a .nm - l .i) = omega arith in
-    terms-stop _ (a .m) (a .ip) (a .k) (a .nm - l .i) (l .i) (l .r) _ (l .sum) (l .sw) (c .before .before .before .next-factor .ensures) (sym (c .before .converged .ensures) ∙ c .if1 .taken) ∙ rw h at (l .inv .2)
+    terms-stop _ (a .m) (a .ip) (a .k) (a .nm - l .i) (l .i) (l .r) _ (l .sum) (l .sw) (c .before .before .before .next-factor .ensures) (sym (c .before .settled .ensures) ∙ c .if1 .taken) ∙ rw h at (l .inv .2)
 
 add-i : tie.Need-add-i Inv-loop μ-loop
 add-i c = search needs
@@ -52,7 +52,7 @@ loop-again c = let a = c .before .before .before .before .before .before .args i
     let h' : suc (a .nm) - (l .i + 1) ≡ a .nm - l .i = omega arith in (
       omega arith,
       omega arith,
-      rw (h', add-one (l .i)) (terms-on _ (a .m) (a .ip) (a .k) (a .nm - l .i) (l .i) (l .r) _ (l .sum) (l .sw) (c .before .before .before .next-factor .ensures) (sym (c .before .converged .ensures) ∙ c .if1 .left) ∙ rw h at (l .inv .2)),
+      rw (h', add-one (l .i)) (terms-on _ (a .m) (a .ip) (a .k) (a .nm - l .i) (l .i) (l .r) _ (l .sum) (l .sw) (c .before .before .before .next-factor .ensures) (sym (c .before .settled .ensures) ∙ c .if1 .left) ∙ rw h at (l .inv .2)),
     )
 
 returns-2 : tie.Need-returns-2 Inv-loop μ-loop
@@ -70,7 +70,7 @@ sum-terms-spec =
     cast-sum
     mul-sum
     element-copy-out-sum
-    converged-requires
+    settled-requires
     returns
     add-i
     loop-less

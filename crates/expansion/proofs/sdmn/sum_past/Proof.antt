@@ -37,15 +37,15 @@ mul-su2 c = search needs
 element-copy-out-su2 : tie.Need-element-copy-out-su2 Inv-loop μ-loop
 element-copy-out-su2 c = search needs
 
-converged-requires : tie.Need-converged-requires Inv-loop μ-loop
-converged-requires c κs = search needs
+settled-requires : tie.Need-settled-requires Inv-loop μ-loop
+settled-requires c κs = search needs
 
 returns : tie.Need-returns Inv-loop μ-loop
 returns c =
     let a = c .before .before .before .before .before .before .args in
     let l = c .before .before .before .before .before .loop in
     let h : suc (a .nm) - l .k ≡ suc (a .nm - l .k) = omega arith in
-    past-stop _ (a .m) (a .ip) (a .nm - l .k) (l .k) (l .r1) _ (l .su2) (l .sw) (c .before .before .before .factor-at .ensures) (sym (c .before .converged .ensures) ∙ c .if1 .taken) ∙ rw h at (l .inv .2)
+    past-stop _ (a .m) (a .ip) (a .nm - l .k) (l .k) (l .r1) _ (l .su2) (l .sw) (c .before .before .before .factor-at .ensures) (sym (c .before .settled .ensures) ∙ c .if1 .taken) ∙ rw h at (l .inv .2)
 
 add-k-2 : tie.Need-add-k-2 Inv-loop μ-loop
 add-k-2 c = search needs
@@ -62,7 +62,7 @@ loop-again c =
       omega arith,
       omega arith,
       rw (h', add-one (l .k))
-          (past-on _ (a .m) (a .ip) (a .nm - l .k) (l .k) (l .r1) _ (l .su2) (l .sw) (c .before .before .before .factor-at .ensures) (sym (c .before .converged .ensures) ∙ c .if1 .left) ∙ rw h at (l .inv .2)),
+          (past-on _ (a .m) (a .ip) (a .nm - l .k) (l .k) (l .r1) _ (l .su2) (l .sw) (c .before .before .before .factor-at .ensures) (sym (c .before .settled .ensures) ∙ c .if1 .left) ∙ rw h at (l .inv .2)),
     )
 
 returns-2 : tie.Need-returns-2 Inv-loop μ-loop
@@ -82,7 +82,7 @@ sum-past-spec =
     cast-su2
     mul-su2
     element-copy-out-su2
-    converged-requires
+    settled-requires
     returns
     add-k-2
     loop-less

@@ -1,25 +1,24 @@
--- `expansion::terms::terms` meets its contract: the whole part of H is a whole number below 175. Assumes nothing.
+-- `expansion::terms::terms` meets its contract: H is below 175, and so is its whole part. Assumes nothing.
+use mathlib.Core.Path.{refl}
 use borrow.Author.Needs.{needs}
 use native.Mathlib.Omega.{arith}
-use Rattle.expansion.proofs.Laws.{terms-whole}
+use Rattle.expansion.specs.Terms.{hOf, termsOf}
+use Rattle.expansion.proofs.Laws.{whole-few}
 use Rattle.expansion.proofs.terms.terms.Statement.{statement}
 use Rattle.expansion.proofs.terms.terms.Tie as tie
 
-int-to-float-truncate : tie.Need-int-to-float-truncate
-int-to-float-truncate c = search needs
+h-requires : tie.Need-h-requires
+h-requires c κs = search needs
 
-truncate-requires : tie.Need-truncate-requires
-truncate-requires c κs = search needs
-
-cast-result : tie.Need-cast-result
-cast-result c = let w = terms-whole (c .before .before .args .offset) (c .before .before .args .c) (c .truncate .result) (c .before .before .pre .0) (c .before .before .pre .1) (c .truncate .ensures) in rw (w .1) (tt, omega (arith, w .2))
+whole-part-requires : tie.Need-whole-part-requires
+whole-part-requires c κs = search needs
 
 add-result : tie.Need-add-result
-add-result c = let w = terms-whole (c .before .before .args .offset) (c .before .before .args .c) (c .truncate .result) (c .before .before .pre .0) (c .before .before .pre .1) (c .truncate .ensures) in rw (w .1) (omega (arith, w .2))
+add-result c = let a = c .before .before .args in let few = whole-few (hOf (a .offset) (a .c)) (c .before .before .pre) in rw (c .whole-part .ensures, c .before .h .ensures) (omega (arith, few))
 
 returns : tie.Need-returns
-returns c = let w = terms-whole (c .before .before .args .offset) (c .before .before .args .c) (c .truncate .result) (c .before .before .pre .0) (c .before .before .pre .1) (c .truncate .ensures) in rw (w .1) (w .3, (omega arith, omega (arith, w .2)))
+unfolding termsOf
+returns c = let a = c .before .before .args in let few = whole-few (hOf (a .offset) (a .c)) (c .before .before .pre) in rw (c .whole-part .ensures, c .before .h .ensures) (refl, (omega arith, omega (arith, few)))
 
 pub terms-spec : {M : Type 1} → statement M
-terms-spec =
-    tie.close (tie.spec int-to-float-truncate truncate-requires cast-result add-result returns)
+terms-spec = tie.close (tie.spec h-requires whole-part-requires add-result returns)

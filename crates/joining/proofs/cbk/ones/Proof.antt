@@ -1,6 +1,6 @@
 -- `joining::cbk::ones` meets its contract. Assumes nothing.
 use mathlib.Core.Path.{refl}
-use Rattle.joining.specs.Cbk.{ones}
+use Rattle.joining.specs.Inside.Kept.{ones}
 use Rattle.joining.proofs.cbk.ones.Statement.{statement}
 use Rattle.joining.proofs.cbk.ones.Tie as tie
 

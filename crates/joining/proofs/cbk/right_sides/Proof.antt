@@ -6,7 +6,8 @@ use native.Mathlib.Omega.{arith}
 use lib.ListN.{length, getD-replicate, length-replicate}
 use Rattle.arith.specs.Double.{#0, at, #1}
 use Rattle.expansion.specs.Sums.{blank}
-use Rattle.joining.specs.Cbk.{ones, Holds, firstIndex, rightSides, r1At, nextR1}
+use Rattle.joining.specs.Inside.Kept.{ones, Holds}
+use Rattle.joining.specs.Cbk.{firstIndex, rightSides, r1At, nextR1}
 use native.Mathlib.Numerals.{add-one}
 use native.Mathlib.Nat.{sub-zero}
 use mathlib.Core.List.{List}

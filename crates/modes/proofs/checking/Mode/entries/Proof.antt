@@ -1,6 +1,8 @@
--- `modes::checking::Mode::entries` meets its contract: the whole part of H is a whole number below 291. Assumes nothing.
+-- `modes::checking::Mode::entries` meets its contract: H is below 291, and so is its whole part. Assumes nothing.
+use mathlib.Core.Path.{refl}
 use native.Mathlib.Omega.{arith}
 use borrow.Author.Needs.{needs}
+use Rattle.modes.specs.Refusals.{entriesOf}
 use Rattle.modes.proofs.Laws as laws
 use Rattle.modes.proofs.checking.Mode.entries.Statement.{statement}
 use Rattle.modes.proofs.checking.Mode.entries.Tie as tie
@@ -8,23 +10,15 @@ use Rattle.modes.proofs.checking.Mode.entries.Tie as tie
 h-requires : tie.Need-h-requires
 h-requires c κs = laws.accepted (c .args .self) (c .pre) .rising
 
-truncate-requires : tie.Need-truncate-requires
-truncate-requires c κs = search needs
-
-cast-result : tie.Need-cast-result
-cast-result c =
-    let w = laws.read-back (c .before .before .args .self) (c .before .h .result) (c .truncate .result) (c .before .before .pre) (c .before .h .ensures) (c .truncate .ensures) in
-    rw (w .1) (tt, omega (arith, w .2))
+whole-part-requires : tie.Need-whole-part-requires
+whole-part-requires c κs = search needs
 
 add-result : tie.Need-add-result
-add-result c =
-    let w = laws.read-back (c .before .before .args .self) (c .before .h .result) (c .truncate .result) (c .before .before .pre) (c .before .h .ensures) (c .truncate .ensures) in
-    rw (w .1) (omega (arith, w .2))
+add-result c = let few = laws.whole-few (c .before .before .args .self) (c .before .before .pre) in rw (c .whole-part .ensures, c .before .h .ensures) (omega (arith, few))
 
 returns : tie.Need-returns
-returns c =
-    let w = laws.read-back (c .before .before .args .self) (c .before .h .result) (c .truncate .result) (c .before .before .pre) (c .before .h .ensures) (c .truncate .ensures) in
-    rw (w .1) (w .3)
+unfolding entriesOf
+returns c = rw (c .whole-part .ensures, c .before .h .ensures)
 
 pub entries-spec : {M : Type 1} → statement M
-entries-spec = tie.close (tie.spec h-requires truncate-requires cast-result add-result returns)
+entries-spec = tie.close (tie.spec h-requires whole-part-requires add-result returns)

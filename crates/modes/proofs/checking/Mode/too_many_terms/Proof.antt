@@ -15,7 +15,7 @@ sub-terms : tie.Need-sub-terms
 sub-terms c = laws.usable (c .before .before .args .self) (c .before .before .pre) .1
 
 terms-requires : tie.Need-terms-requires
-terms-requires c κs = let u = laws.usable (c .before .before .args .self) (c .before .before .pre) in (u .3, u .4)
+terms-requires c κs = laws.usable (c .before .before .args .self) (c .before .before .pre) .4
 
 add-result : tie.Need-add-result
 add-result c = search needs

@@ -1,4 +1,4 @@
--- What a double's bits are taken apart into, for a contract of this crate's own use.
+-- What a double's bits are taken apart into. Definition only.
 use Prim.Native.Nat.{ℕ, _*_, _^_, _≤_, _<_}
 use mathlib.Core.Bool.{false}
 use lib.Ieee.Exact.{HasValue}

@@ -8,7 +8,7 @@ use Rattle.arith.specs.Double.{_⊕_, _⊗_, at}
 use Rattle.expansion.specs.declared.four.Term.{Term}
 use Rattle.expansion.specs.declared.four.Terms.{Terms}
 use Rattle.expansion.specs.declared.sckb.Partial.{Partial}
-use Rattle.expansion.specs.Sums.{converged}
+use Rattle.expansion.specs.Sums.{settled}
 use Rattle.expansion.specs.Sckb.{nextFactor, terms, firstFactor}
 
 -- term i of coefficient k, with the sum up to it, from the term before
@@ -25,7 +25,7 @@ restOf df m ip nm k i t = terms df m ip k (suc nm - i) i (t .r) (t .sum) (t .sum
 
 -- the sum of coefficient k from its term past the first, the one term that is held against the sum remembered from the coefficient before
 unfoldable pub sumFrom : List Float → ℕ → ℕ → ℕ → ℕ → Term → Float → Partial
-sumFrom df m ip nm k t sw = elim (converged sw (t .sum)) [ true ↦ record { sum = t .sum; sw = sw } | false ↦ restOf df m ip nm k (k + 2) t ]
+sumFrom df m ip nm k t sw = elim (settled (t .sum) sw) [ true ↦ record { sum = t .sum; sw = sw } | false ↦ restOf df m ip nm k (k + 2) t ]
 
 -- four sums that end alike, k from term i or from term j on, k + 1 from the next, and so on
 abbrev pub EndAlike : List Float → ℕ → ℕ → ℕ → ℕ → ℕ → Terms → ℕ → Terms → Type 0

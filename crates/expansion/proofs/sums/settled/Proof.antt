@@ -1,8 +1,8 @@
--- `joining::sums::settled` meets its contract. Assumes nothing.
+-- `expansion::sums::settled` meets its contract. Assumes nothing.
 use borrow.Author.Needs.{needs}
-use Rattle.joining.specs.Sums.{settled}
-use Rattle.joining.proofs.sums.settled.Statement.{statement}
-use Rattle.joining.proofs.sums.settled.Tie as tie
+use Rattle.expansion.specs.Sums.{settled}
+use Rattle.expansion.proofs.sums.settled.Statement.{statement}
+use Rattle.expansion.proofs.sums.settled.Tie as tie
 
 abs-requires : tie.Need-abs-requires
 abs-requires c κs = search needs
