@@ -39,8 +39,8 @@ pub record Ends : Type 0 where
   pub uppers : List Float
   pub lowers : List Float
 
--- Where a count makes the midpoint a place's upper: a count that reaches the number of places makes the midpoint the last place's upper too. A smaller count raises the lower of the place after the counted one to it,
--- and lowers the upper of the counted place to it, where that tightens.
+-- Where a count makes the midpoint a place's upper, a count that reaches the number of places makes it the last place's upper too.
+-- A smaller count raises the lower of the place after the counted one to it, and lowers the upper of the counted place to it, where that tightens.
 unfoldable pub tightenCounted : ℕ → ℕ → Float → Ends → Ends
 tightenCounted places count midpoint s =
     cond (leb places count)

@@ -63,7 +63,7 @@ fn counted(negative: usize, s: f64) -> usize
 }
 
 impl Seven {
-    // Whether a pivot is zero: if none is, none has to be substituted.
+    // False only where no pivot is zero, so that none has to be substituted.
     fn any_zero(self) -> bool
         ensures { λ r. ⌜ (r ≡ false → self ≡ each substituted self) ⌝ }
     {
