@@ -1,4 +1,5 @@
 -- Lemmas on accepted rows and what computing unfolds, then a proof of each statement.
+pub mod Zero
 pub mod Filled
 pub mod Computed
 pub mod Demand3
