@@ -2,6 +2,7 @@
 pub mod Zero
 pub mod Filled
 pub mod Computed
+pub mod Demand1
 pub mod Demand3
 pub mod Demand3Angular
 pub mod RowLaws
