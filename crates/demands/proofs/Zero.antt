@@ -2,7 +2,7 @@
 use Prim.Native.Nat.{ℕ, _+_, _-_, _*_, _^_, _≤_, _<_}
 use native.Mathlib.Nat.{mul-one, zero-mul, mul-pos}
 use native.Mathlib.Omega.{arith}
-use mathlib.Core.Path.{_≡_, refl, sym, ap, subst, _∙_}
+use mathlib.Core.Path.{_≡_, refl, sym, ap, _∙_}
 use mathlib.Core.Bool.{Bool, true, false, _&&_}
 use borrow.Author.Tests.{eqb-true, lt-ltb, le-ltb}
 use lib.Dec.{eqb}
@@ -15,15 +15,19 @@ use lib.Ieee.Fits.{down-pos}
 use Rattle.arith.specs.Double.{_⊖_, _⊗_, dbl, #0, #1e-10}
 use Rattle.arith.proofs.Flags.{not-taken, not-left}
 
+-- the size of +0 over any divisor
+nothing : (e : ℤ) → 0 * 1 * down e ≡ 0
+nothing e = ap (λ (z : ℕ). z * down e) (zero-mul 1) ∙ zero-mul (down e)
+
 zero-size : (s : Bool) (m : ℕ) (e : ℤ) → eq (fin s m e) #0 ≡ true → m * up e ≡ 0
 unfolding eq ofBits
-zero-size s m e h = none (m * up e * 1) (0 * 1 * down e) _ (ap (λ (z : ℕ). z * down e) (zero-mul 1) ∙ zero-mul (down e)) h (mul-one (m * up e))
+zero-size s m e h = sym (mul-one (m * up e)) ∙ same (m * up e * 1) (0 * 1 * down e) _ h ∙ nothing e
   where
-    none : (a b : ℕ) (t : Bool) → b ≡ 0 → (eqb a b && t) ≡ true → a ≡ m * up e → m * up e ≡ 0
-    none a b t z h e = sym e ∙ go (eqb a b) refl h
+    same : (a b : ℕ) (t : Bool) → (eqb a b && t) ≡ true → a ≡ b
+    same a b t h = go (eqb a b) refl h
       where
-        go : (q : Bool) → eqb a b ≡ q → (q && t) ≡ true → a ≡ 0
-        go true p h = eqb-true a b p ∙ z
+        go : (q : Bool) → eqb a b ≡ q → (q && t) ≡ true → a ≡ b
+        go true p h = eqb-true a b p
         go false p h = not-taken h
 
 zero-round : (a d : ℕ) → a ≡ 0 → 0 < d → round binary64 false (a * a) d ≡ #0
@@ -50,16 +54,13 @@ zero-below nan h = not-taken h
 zero-below (inf s) h = not-taken h
 zero-below (fin s m e) h = below-above s (m * up e) _ _ (zero-size s m e h) (mul-pos {m = 0x1b_7cdf_d9d7_bdbb} (omega arith) (down-pos e))
 
--- with the sign t: added to a whole number, or taken away
+-- a zero with the sign t, added to a whole number: +0 added, and +0 taken away
 plus-zero : (k : ℕ) (t : Bool) → k ≤ 2 ^ 53 → add binary64 (dbl k) (fin t 0 (pos 0)) ≡ dbl k
 unfolding ofInt add sum
 plus-zero k t h = whole (round binary64 false k 1) t (round-whole binary64 false k h)
   where
     same : (m : ℕ) (e : ℤ) (a : ℕ) → m * up e * 1 ≡ k * down e → a ≡ m * up e * 1 → round binary64 false a (down e * 1) ≡ round binary64 false k 1
     same m e a v p = round-same binary64 false a (down e * 1) k 1 (mul-pos (down-pos e) (omega arith)) (omega arith) (mul-one a ∙ p ∙ v ∙ ap (λ (z : ℕ). k * z) (sym (mul-one (down e))))
-
-    nothing : (e : ℤ) → 0 * 1 * down e ≡ 0
-    nothing e = ap (λ (z : ℕ). z * down e) (zero-mul 1) ∙ zero-mul (down e)
 
     whole : (x : Float) (t : Bool) → HasValue x false k 1 → add binary64 x (fin t 0 (pos 0)) ≡ round binary64 false k 1
     whole nan t v = absurd v
