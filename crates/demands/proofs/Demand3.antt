@@ -8,9 +8,9 @@ use mathlib.Core.List.{List}
 use borrow.Author.Tests.{eqb-true, eqb-false, leb-false}
 use lib.Dec.{eqb, leb}
 use lib.Ieee.{Float, nan}
-use lib.ListN.{length, set, length-set, length-replicate}
+use lib.ListN.{length, set, length-set}
 use lib.Seq.{getD-set-same, getD-set-other}
-use Rattle.arith.specs.Double.{_⊖_, _⊗_, at, #0}
+use Rattle.arith.specs.Double.{_⊖_, _⊗_, at}
 use Rattle.segv.specs.declared.bisection.Bracket.{Bracket}
 use Rattle.segv.proofs.Sound.{row-sound}
 use Rattle.modes.specs.declared.checking.Mode.{Mode}
@@ -18,8 +18,8 @@ use Rattle.modes.specs.declared.checking.Kind.{Kind}
 use Rattle.modes.specs.Refusals.{rowRefusal, signOf, entriesOf}
 use Rattle.modes.specs.Rows.{rowIn, blankSlices, lessened, dlmfIn, dlmfOf}
 use Rattle.demands.specs.Demand3.{Demand3Rows, Demand3Dlmf}
-use Rattle.modes.proofs.Laws.{Accepted, accepted}
-use Rattle.demands.proofs.Filled.{bracketAt, Given, given-in, filled, filled-of, Long, long-all, handed-at}
+use Rattle.modes.proofs.Laws.{accepted}
+use Rattle.demands.proofs.Filled.{bracketAt, Given, given-in, filled, filled-of, long-all, blank-room, handed-at}
 
 pub demand-3-rows : Demand3Rows
 demand-3-rows kind x allowance l h z j hj =
@@ -68,16 +68,6 @@ taken kind x allowance xs h = go (eqb (rowRefusal x) 0) refl (leb (length xs) (x
     go true he true hs t ht = let w : _≡_ {A = ℕ} 9 0 = rw (he, hs) at h in absurd (omega arith)
     go false he s hs t ht = let w : rowRefusal x ≡ 0 = rw he at h in absurd (eqb-false (rowRefusal x) 0 he w)
 
-pub dlmf-accepted : (kind : Kind) (x : Mode) (allowance : ℕ) (xs : List Float) → dlmfOf kind x allowance xs .number ≡ 0 → Accepted x
-dlmf-accepted kind x allowance xs h = accepted x (taken kind x allowance xs h .none)
-
-blank-long : (x : Mode) → Accepted x → Long x blankSlices
-unfolding blankSlices
-blank-long x r =
-    let d = length-replicate 200 #0 in
-    let s = length-replicate {A = ℕ} 200 0 in
-    record { v = omega (arith, d, r); s = omega (arith, s, r); w = omega (arith, d, r); u = omega (arith, d, r) }
-
 pub demand-3-dlmf : Demand3Dlmf
 demand-3-dlmf kind x allowance xs l h t =
     let g = taken kind x allowance xs h in
@@ -88,6 +78,6 @@ demand-3-dlmf kind x allowance xs l h t =
           rw (g .is, is, g .given .row-in-is blankSlices)
           (lessened-at _ (x .c ⊗ x .c) xs (x .n - x .m + 1) j (omega arith) (omega (arith, g .long))
           ∙ ap (λ (v : Float). v ⊖ x .c ⊗ x .c)
-          (ap (λ (b : Bracket). b .value) (handed-at x f blankSlices (blank-long x (accepted x (g .none))) j hj)
+          (ap (λ (b : Bracket). b .value) (handed-at x f blankSlices (long-all x blankSlices (blank-room x (accepted x (g .none)))) j hj)
           ∙ sym (ap (λ (b : Bracket). b .value) (handed-at x f l (long-all x l t) j hj)))),
     )

@@ -8,9 +8,9 @@ use mathlib.Core.List.{List}
 use borrow.Author.Tests.{eqb-true, eqb-false, leb-false}
 use lib.Dec.{eqb, leb}
 use lib.Ieee.{nan, lt}
-use lib.ListN.{length, getD, set, length-set}
+use lib.ListN.{length, getD, set, length-set, length-replicate}
 use lib.Seq.{getD-set-same, getD-set-other}
-use Rattle.arith.specs.Double.{_⊗_, #1e-10}
+use Rattle.arith.specs.Double.{_⊗_, #0, #1e-10}
 use Rattle.arith.proofs.Flags.{not-left}
 use Rattle.segv.specs.declared.bisection.Bracket.{Bracket}
 use Rattle.segv.specs.Families.{Families, bothFamilies, eitherStopped}
@@ -18,9 +18,9 @@ use Rattle.segv.specs.Row.{Slices, written, writtenRow, answer, modeAt, segvRow
 use Rattle.modes.specs.declared.checking.Mode.{Mode}
 use Rattle.modes.specs.declared.checking.Kind.{Kind}
 use Rattle.modes.specs.Refusals.{rowRefusal, signOf, entriesOf}
-use Rattle.modes.specs.Rows.{rowOf, rowIn, tooShort, zeroAt}
+use Rattle.modes.specs.Rows.{rowOf, rowIn, tooShort, zeroAt, blankSlices}
 use Rattle.demands.specs.Demand3.{handed}
-use Rattle.modes.proofs.Laws.{Accepted, accepted, neither}
+use Rattle.modes.proofs.Laws.{Accepted, accepted, neither, long-enough}
 
 -- ---- what is written
 module _ {A : Type 0} (field : Bracket → A) (bracket : ℕ → Bracket) (xs : List A) (d : A) where
@@ -62,6 +62,13 @@ long-all x l h =
       w = leb-false (length (l .lowers)) k (b .1);
       u = leb-false (length (l .uppers)) k (a .1);
     }
+
+pub blank-room : (x : Mode) → Accepted x → tooShort x blankSlices ≡ false
+unfolding blankSlices
+blank-room x r =
+    let d = length-replicate 200 #0 in
+    let s = length-replicate {A = ℕ} 200 0 in
+    long-enough x blankSlices (omega (arith, d, r)) (omega (arith, s, r)) (omega (arith, d, r)) (omega (arith, d, r))
 
 -- ---- an accepted row
 module _ (kind : Kind) (x : Mode) (allowance : ℕ) where

@@ -1,6 +1,8 @@
 -- Lemmas on accepted rows and what computing unfolds, then a proof of each statement.
+pub mod Zero
 pub mod Filled
 pub mod Computed
+pub mod Demand1
 pub mod Demand3
 pub mod Demand3Angular
 pub mod RowLaws

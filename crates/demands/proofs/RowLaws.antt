@@ -1,20 +1,25 @@
 -- The statements of `specs/RowLaws.antt`. Assumes nothing.
-use Prim.Native.Nat.{ℕ, _+_, _-_, _≤_}
+use Prim.Native.Nat.{ℕ, _+_, _-_, _^_, _≤_}
+use native.Mathlib.Nat.{mul-le-mul}
 use native.Mathlib.Omega.{arith}
-use mathlib.Core.Path.{_≡_, refl, ap}
+use mathlib.Core.Path.{_≡_, refl, ap, _∙_}
 use mathlib.Core.Bool.{Bool, true, false}
 use lib.Ieee.{Float, lt}
-use Rattle.arith.specs.Double.{_⊗_, dbl, #1e-10}
+use Rattle.arith.specs.Double.{_⊖_, _⊗_, dbl, #0, #1e-10}
 use Rattle.arith.proofs.Laws.{dbl-product}
+use Rattle.segv.specs.declared.bisection.Bracket.{Bracket}
 use Rattle.segv.specs.Families.{eitherStopped}
 use Rattle.segv.specs.Row.{Slices}
 use Rattle.segv.proofs.Allowance.{families-more}
 use Rattle.modes.specs.declared.checking.Mode.{Mode}
 use Rattle.modes.specs.declared.checking.Kind.{Kind}
 use Rattle.modes.specs.Refusals.{signOf, entriesOf}
-use Rattle.modes.specs.Rows.{rowOf, rowIn, zeroAt}
-use Rattle.demands.specs.RowLaws.{dlmfAtZero, ZeroParameter, MoreAllowance}
-use Rattle.demands.proofs.Filled.{bracketAt, filled, long-all, handed-at}
+use Rattle.modes.specs.Rows.{rowOf, rowIn, zeroAt, blankSlices}
+use Rattle.modes.proofs.Laws.{dlmf-mode}
+use Rattle.demands.specs.RowLaws.{dlmfAtZero, ZeroParameter, DlmfZeroParameter, MoreAllowance}
+use Rattle.demands.proofs.Zero.{zero-square, zero-below, less-zero}
+use Rattle.demands.proofs.Demand3.{demand-3-dlmf}
+use Rattle.demands.proofs.Filled.{bracketAt, filled, long-all, blank-room, handed-at}
 
 zero-is : (m j : ℕ) → m ≤ 199 → j ≤ 199 → let v = dbl (dlmfAtZero (m + j)) in zeroAt m j ≡ record { value = v; lower = v; upper = v; steps = 0 }
 unfolding zeroAt
@@ -25,6 +30,18 @@ zero-parameter kind x allowance l h z j hj =
     let g = filled kind x allowance l h in
     let r = g .range in
     rw (g .is, handed-at x (bracketAt kind x allowance) l (long-all x l (g .long)) j hj, z) (zero-is (x .m) j (r .order) (omega arith))
+
+pub dlmf-zero-parameter : DlmfZeroParameter
+dlmf-zero-parameter kind x allowance xs h z j hj =
+    let r = dlmf-mode kind x allowance xs h in
+    let d = demand-3-dlmf kind x allowance xs blankSlices h (blank-room x r) in
+    let v = zero-parameter kind x allowance blankSlices (d .0) (zero-below (x .c) z) j hj in
+    d .1 j hj
+    ∙ rw (zero-square (x .c) z) (ap (λ (b : Bracket). b .value ⊖ #0) v)
+    ∙ less-zero (dlmfAtZero (x .m + j)) (few (x .m + j) (omega (arith, r)))
+  where
+    few : (n : ℕ) → n ≤ 398 → dlmfAtZero n ≤ 2 ^ 53
+    few n h = omega (arith, mul-le-mul {n₁ = n} {m₁ = n + 1} {n₂ = 398} {m₂ = 399} h (omega arith))
 
 row-in-more : (kind : Kind) (x : Mode) (a b : ℕ) (l : Slices) → a ≤ b → (lt (x .c) #1e-10 ≡ false → eitherStopped (Rattle.demands.proofs.Filled.both kind x a) ≡ false) → rowIn kind x b l ≡ rowIn kind x a l
 unfolding rowIn

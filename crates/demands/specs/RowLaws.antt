@@ -1,13 +1,14 @@
--- More that holds of rows, as statements about the definition of the public row. `proofs/RowLaws.antt` proves them.
+-- More that holds of rows, as statements about the definitions of the public rows. `proofs/RowLaws.antt` proves them.
 use Prim.Native.Nat.{ℕ, _+_, _-_, _*_, _≤_}
 use mathlib.Core.Path.{_≡_}
 use mathlib.Core.Bool.{true}
-use lib.Ieee.{lt}
-use Rattle.arith.specs.Double.{dbl, #1e-10}
+use mathlib.Core.List.{List}
+use lib.Ieee.{Float, lt, eq}
+use Rattle.arith.specs.Double.{dbl, at, #0, #1e-10}
 use Rattle.segv.specs.Row.{Slices}
 use Rattle.modes.specs.declared.checking.Kind.{Kind}
 use Rattle.modes.specs.declared.checking.Mode.{Mode}
-use Rattle.modes.specs.Rows.{rowOf}
+use Rattle.modes.specs.Rows.{rowOf, dlmfOf}
 use Rattle.demands.specs.Demand3.{handed}
 
 -- DLMF 30.3: at parameter zero the eigenvalue of degree n is n(n + 1), whatever the order
@@ -22,6 +23,15 @@ ZeroParameter =
     → lt (x .c) #1e-10 ≡ true
     → (j : ℕ) → j ≤ x .n - x .m
     → let v = dbl (dlmfAtZero (x .m + j)) in handed (rowOf kind x allowance l .after) j ≡ record { value = v; lower = v; upper = v; steps = 0 }
+
+-- at c = 0, of either sign, an accepted DLMF row hands out DLMF's values as doubles
+abbrev pub DlmfZeroParameter : Type 0
+DlmfZeroParameter =
+    (kind : Kind) (x : Mode) (allowance : ℕ) (xs : List Float)
+    → dlmfOf kind x allowance xs .number ≡ 0
+    → eq (x .c) #0 ≡ true
+    → (j : ℕ) → j ≤ x .n - x .m
+    → at (dlmfOf kind x allowance xs .after) j ≡ dbl (dlmfAtZero (x .m + j))
 
 -- more allowance never changes an accepted row
 abbrev pub MoreAllowance : Type 0

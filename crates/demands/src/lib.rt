@@ -1,2 +1,2 @@
-// No code: the users' demands and document 01's tables, as statements about the definitions below (specs/), and their
-// proofs.
+// No code: specs/ states the users' demands, laws of rows and document 01's tables about the definitions of the crates
+// below, and proofs/ proves them.

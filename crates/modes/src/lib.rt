@@ -19,3 +19,4 @@ pub use operations::operation_of;
 pub use radial_functions::radial;
 pub use rows::dlmf_row;
 pub use rows::row;
+pub use rows::zero_steps;

@@ -2,7 +2,6 @@
 ghost use mathlib.Core.Path.{_≡_};
 ghost use Prim.Native.Nat.{_-_, _<_, _≤_};
 ghost use lib.ListN.{length, replicate};
-ghost use Rattle.arith.specs.Double.{#0};
 ghost use Rattle.segv.specs.Row.{slices, writtenRow, answer};
 ghost use Rattle.modes.specs.Refusals.{rowRefusal};
 ghost use Rattle.modes.specs.Answers.{outcome};
@@ -113,14 +112,8 @@ pub fn row(
     super::answers::slice_answer(row_number(kind, mode, allowance, values, steps, lowers, uppers))
 }
 
-// Two hundred zeros. Made by a call, an array is one value in the caller's proof.
-fn zero_doubles() -> [f64; 200]
-    ensures { λ r. ⌜ r ≡ replicate 200 #0 ⌝ }
-{
-    [0.0; 200]
-}
-
-fn zero_steps() -> [u16; 200]
+// The step numbers of the longest row, all zero. Made by a call, an array is one value in the caller's proof.
+pub fn zero_steps() -> [u16; 200]
     ensures { λ r. ⌜ r ≡ replicate 200 0 ⌝ }
 {
     [0; 200]
@@ -150,10 +143,10 @@ fn dlmf_number(kind: Kind, mode: Mode, allowance: u16, out: &mut [f64]) -> u8
     if out.len() <= last {
         return 9;
     }
-    let mut values = zero_doubles();
+    let mut values = expansion::sums::blank();
     let mut steps = zero_steps();
-    let mut lowers = zero_doubles();
-    let mut uppers = zero_doubles();
+    let mut lowers = expansion::sums::blank();
+    let mut uppers = expansion::sums::blank();
     let number = row_in(
         kind,
         mode,

@@ -4,6 +4,7 @@ use Prim.Native.Nat.{ℕ}
 use native.Mathlib.Omega.{arith}
 use lib.ListN.{length, length-replicate}
 use Rattle.arith.specs.Double.{#0}
+use Rattle.expansion.specs.Sums as Sums
 use Rattle.modes.proofs.Laws as laws
 use borrow.Author.Needs.{needs}
 use Rattle.modes.proofs.rows.dlmf_number.Statement.{statement}
@@ -24,17 +25,17 @@ cast-last c = search needs
 returns-2 : tie.Need-returns-2
 returns-2 c = laws.dlmf-short _ _ _ _ _ (c .before .before .before .row-refusal .ensures) (c .before .before .if1 .left) (c .if2 .taken)
 
-zero-doubles-requires : tie.Need-zero-doubles-requires
-zero-doubles-requires c κs = search needs
+blank-requires : tie.Need-blank-requires
+blank-requires c κs = search needs
 
 zero-steps-requires : tie.Need-zero-steps-requires
 zero-steps-requires c κs = search needs
 
-zero-doubles-requires-2 : tie.Need-zero-doubles-requires-2
-zero-doubles-requires-2 c κs = search needs
+blank-requires-2 : tie.Need-blank-requires-2
+blank-requires-2 c κs = search needs
 
-zero-doubles-requires-3 : tie.Need-zero-doubles-requires-3
-zero-doubles-requires-3 c κs = search needs
+blank-requires-3 : tie.Need-blank-requires-3
+blank-requires-3 c κs = search needs
 
 slice-aggregate-row-in : tie.Need-slice-aggregate-row-in
 slice-aggregate-row-in c = search needs
@@ -49,17 +50,19 @@ slice-aggregate-row-in-4 : tie.Need-slice-aggregate-row-in-4
 slice-aggregate-row-in-4 c = search needs
 
 row-in-requires : tie.Need-row-in-requires
+unfolding Sums.blank
 row-in-requires c κs =
     let e = sym (c .before .before .before .before .before .before .before .before .before .before .before .row-refusal .ensures) ∙ c .before .before .before .before .before .before .before .before .before .before .if1 .left in
     let ok = laws.accepted (c .before .before .before .before .before .before .before .before .before .before .before .before .before .args .mode) e in
-    let v = ap length (c .before .before .before .before .before .before .before .zero-doubles .ensures) ∙ length-replicate 200 #0 in
+    let v = ap length (c .before .before .before .before .before .before .before .blank .ensures) ∙ length-replicate 200 #0 in
     let s = ap length (c .before .before .before .before .before .before .zero-steps .ensures) ∙ length-replicate {A = ℕ} 200 0 in
-    let w = ap length (c .before .before .before .before .before .zero-doubles2 .ensures) ∙ length-replicate 200 #0 in
-    let u = ap length (c .before .before .before .before .zero-doubles3 .ensures) ∙ length-replicate 200 #0 in
+    let w = ap length (c .before .before .before .before .before .blank2 .ensures) ∙ length-replicate 200 #0 in
+    let u = ap length (c .before .before .before .before .blank3 .ensures) ∙ length-replicate 200 #0 in
     (e, (omega arith, omega arith, omega arith, omega arith))
 
 returns-3 : tie.Need-returns-3
-returns-3 c = laws.dlmf-refused _ _ _ _ _ (c .before .before .before .before .before .before .before .before .before .before .before .before .before .before .before .before .before .row-refusal .ensures) (c .before .before .before .before .before .before .before .before .before .before .before .before .before .before .before .before .if1 .left) (c .before .before .before .before .before .before .before .before .before .before .before .before .before .before .if2 .left) _ _ _ _ (c .before .before .before .before .before .before .before .before .before .before .before .before .before .zero-doubles .ensures) (c .before .before .before .before .before .before .before .before .before .before .before .before .zero-steps .ensures) (c .before .before .before .before .before .before .before .before .before .before .before .zero-doubles2 .ensures) (c .before .before .before .before .before .before .before .before .before .before .zero-doubles3 .ensures) _ (c .before .before .before .before .before .row-in .ensures) (c .if3 .taken)
+unfolding Sums.blank
+returns-3 c = laws.dlmf-refused _ _ _ _ _ (c .before .before .before .before .before .before .before .before .before .before .before .before .before .before .before .before .before .row-refusal .ensures) (c .before .before .before .before .before .before .before .before .before .before .before .before .before .before .before .before .if1 .left) (c .before .before .before .before .before .before .before .before .before .before .before .before .before .before .if2 .left) _ _ _ _ (c .before .before .before .before .before .before .before .before .before .before .before .before .before .blank .ensures) (c .before .before .before .before .before .before .before .before .before .before .before .before .zero-steps .ensures) (c .before .before .before .before .before .before .before .before .before .before .before .blank2 .ensures) (c .before .before .before .before .before .before .before .before .before .before .blank3 .ensures) _ (c .before .before .before .before .before .row-in .ensures) (c .if3 .taken)
 
 add-lessen : tie.Need-add-lessen
 add-lessen c = search needs
@@ -74,7 +77,8 @@ same-length : tie.Need-same-length
 same-length c = search needs
 
 returns-4 : tie.Need-returns-4
-returns-4 c = laws.dlmf-done _ _ _ _ _ (c .before .before .before .before .before .before .before .before .before .before .before .before .before .before .before .before .before .before .before .before .before .before .before .row-refusal .ensures) (c .before .before .before .before .before .before .before .before .before .before .before .before .before .before .before .before .before .before .before .before .before .before .if1 .left) (c .before .before .before .before .before .before .before .before .before .before .before .before .before .before .before .before .before .before .before .before .if2 .left) _ _ _ _ (c .before .before .before .before .before .before .before .before .before .before .before .before .before .before .before .before .before .before .before .zero-doubles .ensures) (c .before .before .before .before .before .before .before .before .before .before .before .before .before .before .before .before .before .before .zero-steps .ensures) (c .before .before .before .before .before .before .before .before .before .before .before .before .before .before .before .before .before .zero-doubles2 .ensures) (c .before .before .before .before .before .before .before .before .before .before .before .before .before .before .before .before .zero-doubles3 .ensures) _ (c .before .before .before .before .before .before .before .before .before .before .before .row-in .ensures) _ (c .before .before .before .before .before .before .if3 .left) (c .before .before .lessen .ensures)
+unfolding Sums.blank
+returns-4 c = laws.dlmf-done _ _ _ _ _ (c .before .before .before .before .before .before .before .before .before .before .before .before .before .before .before .before .before .before .before .before .before .before .before .row-refusal .ensures) (c .before .before .before .before .before .before .before .before .before .before .before .before .before .before .before .before .before .before .before .before .before .before .if1 .left) (c .before .before .before .before .before .before .before .before .before .before .before .before .before .before .before .before .before .before .before .before .if2 .left) _ _ _ _ (c .before .before .before .before .before .before .before .before .before .before .before .before .before .before .before .before .before .before .before .blank .ensures) (c .before .before .before .before .before .before .before .before .before .before .before .before .before .before .before .before .before .before .zero-steps .ensures) (c .before .before .before .before .before .before .before .before .before .before .before .before .before .before .before .before .before .blank2 .ensures) (c .before .before .before .before .before .before .before .before .before .before .before .before .before .before .before .before .blank3 .ensures) _ (c .before .before .before .before .before .before .before .before .before .before .before .row-in .ensures) _ (c .before .before .before .before .before .before .if3 .left) (c .before .before .lessen .ensures)
 
 pub dlmf-number-spec : {M : Type 1} → statement M
 dlmf-number-spec =
@@ -85,10 +89,10 @@ dlmf-number-spec =
     sub-last
     cast-last
     returns-2
-    zero-doubles-requires
+    blank-requires
     zero-steps-requires
-    zero-doubles-requires-2
-    zero-doubles-requires-3
+    blank-requires-2
+    blank-requires-3
     slice-aggregate-row-in
     slice-aggregate-row-in-2
     slice-aggregate-row-in-3
