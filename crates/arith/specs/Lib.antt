@@ -1,8 +1,8 @@
 pub mod Double
 pub mod Root
 pub mod NearestRoot
-pub mod Inside
 pub mod Truncation
 pub mod Powers
 pub mod Choice
 pub mod Examples
+pub mod Inside

@@ -7,6 +7,6 @@ use lib.Ieee.{Float, toSigned, toUnsigned}
 abbrev pub truncate : Float → ℤ
 truncate x = toSigned 31 x
 
--- the same as a natural number, for a double that is not below zero; for any other 0
+-- x truncated, as a natural number, where x is not below zero (`truncate-whole` in `proofs/Laws.antt`), and else 0
 abbrev pub wholePart : Float → ℕ
 wholePart x = toUnsigned 31 x

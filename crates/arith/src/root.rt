@@ -15,8 +15,9 @@ fn share(t: u64, c: u64) -> u64
 }
 
 // A guess of n's square root. n is (1 + t / 2^20) * 2^(52 + odd), cut. For the root of 1 + t / 2^20
-// stands a polynomial in t, in units of 2^-26, and for that of 2 stands 1 + 434334 / 2^20. How near
-// the guess is only speed depends on, so nothing is proved of that; over all t it is within 2^-16.
+// stands a polynomial in t, in units of 2^-26, and for that of 2 stands 1 + 434334 / 2^20. Only speed
+// depends on how near the guess is, so that is not proved; computed for every t, its error is less
+// than 2^-16 of the root.
 fn first_guess(n: u64) -> u64
     requires { ⌜ (2 ^ 52 ≤ n) × (n < 2 ^ 54) ⌝ }
     ensures { λ r. ⌜ (2 ^ 26 ≤ r) × (r < 2 ^ 28) ⌝ }

@@ -91,7 +91,7 @@ fn next_factorial(reg: f64, n: u32, r1: f64) -> f64
     r1 * ((n + 1) as f64)
 }
 
-// 1e-200 where large orders would overflow, and else 1.
+// 1e-200 for large orders, and else 1.
 pub fn regulator(m: u32, nm: u32) -> f64
     requires { ⌜ m + nm < 4096 ⌝ }
     ensures { λ x. ⌜ x ≡ Sckb.regulator m nm ⌝ }

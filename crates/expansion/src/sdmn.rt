@@ -7,7 +7,7 @@ ghost use Rattle.expansion.specs.Terms as Terms;
 ghost use Rattle.expansion.specs.Sdmn as Sdmn;
 use super::sums::Places;
 
-// The recurrence that the coefficients of one family satisfy.
+// The recurrence by which the coefficients of one parity are formed.
 pub struct Recurrence {
     pub m: u32,
     // The parity of n - m.
