@@ -1,0 +1,136 @@
+"""Spheroidal functions in high precision, as the accuracy test's reference.
+
+An eigenvalue of the tridiagonal matrix, its vector d in Flammer's normalisation, and the angular
+function as the sum of d over associated Legendre functions without the Condon-Shortley sign. All in
+decimal floating point with as many digits as the sums lose, and 40 more.
+"""
+from decimal import Decimal, getcontext
+from functools import lru_cache
+
+SIGNS = {"prolate": 1, "oblate": -1}
+
+
+def set_precision(n, c):
+    """The normalisation loses about e^c, the power series of the self-test about 2.5^n."""
+    getcontext().prec = 60 + int(0.9 * c + 0.45 * n)
+
+
+def matrix(sign, m, parity, c, places):
+    """a, d and g of the recurrence a[i] d[i + 1] + (d[i] - cv) d[i] + g[i] d[i - 1] = 0."""
+    square = sign * Decimal(c) * Decimal(c)
+    a, d, g = [], [], []
+    for k in range(parity, 2 * places + parity, 2):
+        s = m + k
+        a.append(Decimal((2 * m + k + 2) * (2 * m + k + 1)) / ((2 * s + 3) * (2 * s + 5)) * square)
+        d.append(s * (s + 1) + Decimal(2 * s * (s + 1) - 2 * m * m - 1) / ((2 * s - 1) * (2 * s + 3)) * square)
+        g.append(Decimal(k * (k - 1)) / ((2 * s - 3) * (2 * s - 1)) * square)
+    return a, d, g
+
+
+def pivots(a, d, g, value):
+    """The pivots from the first place on; as many are below zero as eigenvalues are below the value."""
+    found = [d[0] - value]
+    for i in range(1, len(d)):
+        found.append(d[i] - value - a[i - 1] * g[i] / (found[-1] or Decimal("1e-300")))
+    return found
+
+
+def pivots_back(a, d, g, value):
+    found = [d[-1] - value]
+    for i in range(len(d) - 2, -1, -1):
+        found.append(d[i] - value - a[i] * g[i + 1] / (found[-1] or Decimal("1e-300")))
+    return found[::-1]
+
+
+def weights(m, parity, places):
+    """The squared norms of the Legendre functions on (-1, 1), in units of the first."""
+    found = [Decimal(1)]
+    for i in range(1, places):
+        k = 2 * i + parity
+        factor = Decimal((k + 2 * m) * (k + 2 * m - 1)) / (k * (k - 1))
+        found.append(found[-1] * factor * (2 * m + 2 * k - 3) / (2 * m + 2 * k + 1))
+    return found
+
+
+def refined(a, d, g, weight, value):
+    """One Rayleigh step: a better eigenvalue, and the vector, by pivots from both ends."""
+    down, up = pivots(a, d, g, value), pivots_back(a, d, g, value)
+    gaps = [down[i] + up[i] - (d[i] - value) for i in range(len(d))]
+    joint = min(range(len(d)), key=lambda i: abs(gaps[i]))
+    vector = [Decimal(0)] * len(d)
+    vector[joint] = Decimal(1)
+    for i in range(joint - 1, -1, -1):
+        vector[i] = -a[i] * vector[i + 1] / down[i]
+    for i in range(joint + 1, len(d)):
+        vector[i] = -g[i] * vector[i - 1] / up[i]
+    norm = sum(w * v * v for w, v in zip(weight, vector))
+    return value + gaps[joint] * weight[joint] / norm, vector
+
+
+@lru_cache(maxsize=512)
+def legendre(m, x, count, precision):
+    """P of order m and degrees m, m + 1, .. at x, and the derivatives (inside (-1, 1) only)."""
+    one = 1 - x * x
+    root = one.sqrt() ** m if m else Decimal(1)
+    for odd in range(1, 2 * m, 2):
+        root *= odd
+    values = [root, (2 * m + 1) * x * root]
+    for l in range(m + 1, m + count - 1):
+        values.append(((2 * l + 1) * x * values[-1] - (l + m) * values[-2]) / (l - m + 1))
+    if not one:
+        return values, None
+    below = [Decimal(0), *values]
+    slopes = [((m + i + m) * below[i] - (m + i) * x * values[i]) / one for i in range(count)]
+    return values, slopes
+
+
+class Mode:
+    """One mode. `start` is its characteristic value, right to some digits: the nearest eigenvalue is
+    taken, and that it is the mode's is tested by the count of eigenvalues below it."""
+
+    def __init__(self, kind, m, n, c, start):
+        set_precision(n, c)
+        self.kind, self.m, self.n, self.c = kind, m, n, c
+        self.parity, self.index = (n - m) % 2, (n - m) // 2
+        places = self.index + int(c) + 60
+        a, d, g = matrix(SIGNS[kind], m, self.parity, c, places)
+        self.weight = weights(m, self.parity, places)
+        value, limit = Decimal(start), Decimal(10) ** (20 - getcontext().prec)
+        for _ in range(20):
+            last = value
+            value, vector = refined(a, d, g, self.weight, last)
+            if abs(value - last) <= limit * max(1, abs(value)):
+                break
+        else:
+            raise ArithmeticError(f"no eigenvalue is found for {self.kind} m {m} n {n} c {c}")
+        near = max(1, abs(value)) * Decimal("1e-25")
+        counts = [sum(p < 0 for p in pivots(a, d, g, value + side)) for side in (-near, near)]
+        if counts != [self.index, self.index + 1]:
+            raise ArithmeticError(f"{start} belongs to another mode than {self.kind} m {m} n {n} c {c}")
+        at_zero = self.legendre(Decimal(0))[self.parity]
+        scale = at_zero[self.index] / sum(v * p for v, p in zip(vector, at_zero))
+        self.value, self.d = value, [v * scale for v in vector]
+
+    def legendre(self, x):
+        """Values and derivatives at x of the Legendre functions that the coefficients belong to."""
+        values, slopes = legendre(self.m, x, 2 * len(self.weight) + 1, getcontext().prec)
+        chosen = slice(self.parity, 2 * len(self.weight) + self.parity, 2)
+        return values[chosen], slopes and slopes[chosen]
+
+    def angular(self, x):
+        values, slopes = self.legendre(x)
+        value = sum(d * p for d, p in zip(self.d, values))
+        return value, slopes and sum(d * p for d, p in zip(self.d, slopes))
+
+    def angular_by_powers(self, x, terms=2000):
+        """The same by the power series of the differential equation, without the coefficients d."""
+        m, square = self.m, SIGNS[self.kind] * Decimal(self.c) * Decimal(self.c)
+        u = [Decimal(0)] * (terms + 2)
+        u[self.parity] = self.legendre(Decimal(0))[self.parity][self.index]
+        for k in range(self.parity, terms, 2):
+            before = u[k - 2] if k >= 2 else 0
+            u[k + 2] = ((k * (k - 1) + 2 * (m + 1) * k - self.value + m * (m + 1)) * u[k] + square * before) / ((k + 1) * (k + 2))
+        total = Decimal(0)
+        for coefficient in reversed(u):
+            total = total * x + coefficient
+        return total * (1 - x * x).sqrt() ** m if m else total
