@@ -27,6 +27,7 @@ import subprocess
 import sys
 from pathlib import Path
 
+sys.dont_write_bytecode = True
 import spheroidal_checks as checks
 
 TARGET = Path(__file__).resolve().parent.parent / "target"

@@ -1,17 +1,19 @@
 """Spheroidal functions in high precision, as the accuracy test's reference.
 
-An eigenvalue of the tridiagonal matrix, its vector d in Flammer's normalisation, and the angular
-function as the sum of d over associated Legendre functions without the Condon-Shortley sign. All in
-decimal floating point with as many digits as the sums lose, and 40 more.
+An eigenvalue of the tridiagonal matrix, its vector d in Flammer's normalisation, the angular function
+as the sum of d over associated Legendre functions without the Condon-Shortley sign, and both oblate
+radial functions on the disc. All in decimal floating point, with as many digits as the sums lose and
+some 60 more.
 """
 from decimal import Decimal, getcontext
 from functools import lru_cache
+from math import factorial, prod
 
 SIGNS = {"prolate": 1, "oblate": -1}
 
 
 def set_precision(n, c):
-    """The normalisation loses about e^c, the power series of the self-test about 2.5^n."""
+    """The normalisation loses about e^c, and the power series of the self-test about 2.5^n."""
     getcontext().prec = 60 + int(0.9 * c + 0.45 * n)
 
 
@@ -123,14 +125,84 @@ class Mode:
         return value, slopes and sum(d * p for d, p in zip(self.d, slopes))
 
     def angular_by_powers(self, x, terms=2000):
-        """The same by the power series of the differential equation, without the coefficients d."""
+        """The same value by the power series of the differential equation, without d."""
         m, square = self.m, SIGNS[self.kind] * Decimal(self.c) * Decimal(self.c)
         u = [Decimal(0)] * (terms + 2)
         u[self.parity] = self.legendre(Decimal(0))[self.parity][self.index]
         for k in range(self.parity, terms, 2):
-            before = u[k - 2] if k >= 2 else 0
-            u[k + 2] = ((k * (k - 1) + 2 * (m + 1) * k - self.value + m * (m + 1)) * u[k] + square * before) / ((k + 1) * (k + 2))
+            own = k * (k - 1) + 2 * (m + 1) * k - self.value + m * (m + 1)
+            u[k + 2] = (own * u[k] + (square * u[k - 2] if k > 1 else 0)) / ((k + 1) * (k + 2))
         total = Decimal(0)
         for coefficient in reversed(u):
             total = total * x + coefficient
         return total * (1 - x * x).sqrt() ** m if m else total
+
+    def factors(self):
+        """d times (2m + r)!/r!, of which the sum normalises the radial functions."""
+        factor, found = Decimal(factorial(2 * self.m + self.parity)), []
+        for i, value in enumerate(self.d):
+            r = 2 * i + self.parity
+            if i > 0:
+                factor = factor * (2 * self.m + r) * (2 * self.m + r - 1) / (r * (r - 1))
+            found.append(value * factor)
+        return found
+
+    def first_on_disc(self):
+        """The first oblate radial function on the disc, or its derivative where n - m is odd; the
+        other of the two is zero. Of the sum over spherical Bessel functions one term is left."""
+        factors, c = self.factors(), Decimal(self.c)
+        odd = prod(range(3, 2 * (self.m + self.parity) + 2, 2))
+        return (-1) ** self.index * factors[0] * c ** (self.m + self.parity) / odd / sum(factors)
+
+    def second_on_disc(self):
+        """The second one and its derivative: its sum over spherical Neumann functions at 12, from
+        where Taylor series of the differential equation go down to the disc."""
+        m, c, x = self.m, Decimal(self.c), Decimal(12)
+        factors = self.factors()
+        y, slopes = neumann(c * x, m + 2 * len(factors) + 1)
+        signs = [(-1) ** (self.index + i) for i in range(len(factors))]
+        at = [m + 2 * i + self.parity for i in range(len(factors))]
+        u = sum(s * f * y[l] for s, f, l in zip(signs, factors, at)) / sum(factors) / x**m
+        du = c * sum(s * f * slopes[l] for s, f, l in zip(signs, factors, at)) / sum(factors) / x**m - m * u / x
+        while x > 0:
+            step = min(x, (1 + x * x).sqrt() / 2, 20 / c)
+            u, du = self.stepped(x, -step, u, du)
+            x -= step
+        return u, du
+
+    def stepped(self, x, step, u, du):
+        """From x to x + step by the Taylor series of (1 + x^2) u'' + 2 (m + 1) x u' + q u = 0, with
+        q = m (m + 1) - cv + c^2 x^2. The radial function is (1 + x^2)^(m/2) u."""
+        m, square = self.m, Decimal(self.c) * Decimal(self.c)
+        q, a = m * (m + 1) - self.value + square * x * x, [u, du]
+        value, slope, power, small, k = u + du * step, du, step, 0, 0
+        limit = (abs(u) + abs(du * step)) * Decimal(10) ** -getcontext().prec
+        while small < 4:
+            total = 2 * x * (k + 1) * (k + m + 1) * a[k + 1] + (k * (k - 1) + 2 * (m + 1) * k + q) * a[k]
+            total += square * ((2 * x * a[k - 1] if k > 0 else 0) + (a[k - 2] if k > 1 else 0))
+            a.append(-total / ((1 + x * x) * (k + 2) * (k + 1)))
+            slope += (k + 2) * a[-1] * power
+            power *= step
+            value += a[-1] * power
+            small = small + 1 if (k + 2) * abs(a[-1] * power) < limit else 0
+            k += 1
+        return value, slope
+
+
+def neumann(z, count):
+    """Spherical Neumann functions of degrees 0, 1, .. at z, and the derivatives."""
+    extra = int(0.9 * float(z)) + 10
+    getcontext().prec += extra
+    sums, term, k = [Decimal(0)] * 4, Decimal(1), 0
+    limit = Decimal(10) ** -getcontext().prec
+    while k < z or term > limit:
+        sums[k % 4] += term
+        k += 1
+        term = term * z / k
+    getcontext().prec -= extra
+    cosine, sine = sums[0] - sums[2], sums[1] - sums[3]
+    values = [-cosine / z, -cosine / z / z - sine / z]
+    for l in range(1, count):
+        values.append((2 * l + 1) / z * values[-1] - values[-2])
+    below = [sine / z, *values]
+    return values, [below[l] - (l + 1) / z * values[l] for l in range(count)]
