@@ -27,7 +27,7 @@ import subprocess
 import sys
 from pathlib import Path
 
-sys.dont_write_bytecode = True
+sys.dont_write_bytecode = True  # nothing is written beside the sources
 import spheroidal_checks as checks
 
 TARGET = Path(__file__).resolve().parent.parent / "target"
@@ -180,10 +180,10 @@ def coefficients(path, kind, fields, cv):
     """The mode's expansion coefficients, or None where the library is not there."""
     try:
         library = ctypes.CDLL(os.path.abspath(path))
-    except OSError:
+        return checks.coefficients(library, kind, fields["m"], fields["n"], fields["c"], cv)
+    except (OSError, AttributeError):
         say(f"the recurrence was not checked: {path} cannot be loaded (./build makes the library)")
         return None
-    return checks.coefficients(library, kind, fields["m"], fields["n"], fields["c"], cv)
 
 
 def errors_of(program, what, kind, fields, cv, d, answers):
