@@ -171,7 +171,8 @@ def print_measurements(parameters):
         for answer in answers_of(table_modes(kind, parameters)):
             truth, key = answer.truth(), (answer.m, answer.n, answer.c)
             values.append((key, relative(answer.value, truth.value)))
-            errors.append((float(abs(Decimal(answer.value) / truth.value - 1)), answer))
+            off, size = abs(Decimal(answer.value) - truth.value), abs(truth.value)
+            errors.append((off / size, off / max(size, Decimal(answer.c) ** 2), answer))
             outside.append(max(Decimal(answer.lower) - truth.value, truth.value - Decimal(answer.upper)) / abs(truth.value))
             tables["angular functions"].append((key, min(angular_digits(answer, truth))))
             tables["coefficients"].append((key, coefficient_digits(answer, truth)))
@@ -183,8 +184,9 @@ def print_measurements(parameters):
             print_tables(measured, parameters)
     print("### Characteristic values, prolate and oblate\n")
     print_tables(values, parameters)
-    error, worst = max(errors, key=lambda pair: pair[0])
-    print(f"The largest relative error of {len(values)} values is {error:.1e}, {named(worst)}.")
+    error, _, worst = max(errors, key=lambda found: found[0])
+    print(f"The largest relative error of {len(values)} values is {error:.1e}, {named(worst)}, value {worst.value:.4g}.")
+    print(f"Against the larger of value and c² it is {max(found[1] for found in errors):.1e}.")
     print(f"{sum(off > 0 for off in outside)} exact values lie outside their bracket, by at most {max(outside):.1e} of the value.\n")
 
 
@@ -232,7 +234,7 @@ def print_self_test(modes):
 def print_not_finite(step):
     """Shares of all accepted modes that are answered with NaN or infinity."""
     print("### Answers that are not finite\n")
-    print("| kind | c | modes | coefficients | angular | radial | least m at n = m | least n + m |")
+    print("| kind | c | modes | coefficients | angular | radial | from m on at n = m | from n on at m = 60 |")
     print("|---|---|---|---|---|---|---|---|")
     for kind in KINDS:
         for c in (1e-3, 1.0, 30.0):
@@ -244,7 +246,7 @@ def print_not_finite(step):
             radial = [a for a in answers if a.four]
             shares.append(sum(broken(a.four) for a in radial) / len(radial) if radial else None)
             cells = ["-" if share is None else f"{share:.0%}" for share in shares]
-            edges = min(a.m for a in lost if a.n == a.m), min(a.n + a.m for a in lost)
+            edges = min(a.m for a in lost if a.n == a.m), min(a.n for a in lost if a.m == 60)
             print(f"| {kind} | {c:g} | {len(answers)} | {' | '.join(cells)} | {edges[0]} | {edges[1]} |")
     print()
 
@@ -268,7 +270,7 @@ class Tally:
     """How a check errs: warnings where digits are enough, silence where they are not."""
 
     def __init__(self, name):
-        self.name, self.right, self.wrong, self.needless, self.missed, self.worst = name, 0, 0, 0, 0, ENOUGH
+        self.name, self.right, self.wrong, self.needless, self.missed, self.worst = name, 0, 0, 0, 0, None
 
     def count(self, true, estimated):
         self.right += true >= ENOUGH
@@ -276,10 +278,11 @@ class Tally:
         self.needless += true >= ENOUGH > estimated
         if true < ENOUGH <= estimated:
             self.missed += 1
-            self.worst = min(self.worst, true)
+            self.worst = true if self.worst is None else min(self.worst, true)
 
     def row(self):
-        return f"| {self.name} | {self.wrong} | {self.missed} | {self.right} | {self.needless} |"
+        worst = "" if self.worst is None else f", with {self.worst:.1f} digits or more"
+        return f"| {self.name} | {self.wrong} | {self.missed}{worst} | {self.right} | {self.needless} |"
 
 
 def print_checks(count):
@@ -320,7 +323,7 @@ def main(words):
     print_self_test(random_modes(20 if quick else 100, 60, 60, 60, KINDS))
     print_measurements((1e-7, 1.0, 20.0) if quick else PARAMETERS)
     print_near_zero([(0, 1), (1, 1), (2, 6), (10, 12)])
-    print_not_finite(8 if quick else 2)
+    print_not_finite(10 if quick else 2)
     print_checks(200 if quick else 2000)
 
 
