@@ -307,10 +307,7 @@ def main():
     parser.add_argument("--bits", action="store_true", help="print doubles as the 16 digits of their bits")
     parser.add_argument("--plot", metavar="FILE", help="plot an angular function (needs matplotlib)")
     parser.add_argument("--program", help="the record program; by default SPHEROIDAL or target/bin/spheroidal")
-    parser.add_argument(
-        "--library",
-        help="the shared library for the checks; by default SPHEROIDAL_LIBRARY or target/spheroidal/lib/libspheroidal_c.so",
-    )
+    parser.add_argument("--library", help="the library for the checks; by default SPHEROIDAL_LIBRARY or what ./build makes")
     try:
         try:
             run(parser.parse_intermixed_args())

@@ -173,7 +173,7 @@ def print_measurements(parameters):
             values.append((key, relative(answer.value, truth.value)))
             off, size = abs(Decimal(answer.value) - truth.value), abs(truth.value)
             errors.append((off / size, off / max(size, Decimal(answer.c) ** 2), answer))
-            outside.append(max(Decimal(answer.lower) - truth.value, truth.value - Decimal(answer.upper)) / abs(truth.value))
+            outside.append(max(Decimal(answer.lower) - truth.value, truth.value - Decimal(answer.upper)) / size)
             tables["angular functions"].append((key, min(angular_digits(answer, truth))))
             tables["coefficients"].append((key, coefficient_digits(answer, truth)))
             if answer.four:
@@ -185,9 +185,10 @@ def print_measurements(parameters):
     print("### Characteristic values, prolate and oblate\n")
     print_tables(values, parameters)
     error, _, worst = max(errors, key=lambda found: found[0])
-    print(f"The largest relative error of {len(values)} values is {error:.1e}, {named(worst)}, value {worst.value:.4g}.")
+    print(f"The largest relative error of {len(values)} values is {error:.1e}, {named(worst)}, {worst.value:.4g}.")
     print(f"Against the larger of value and c² it is {max(found[1] for found in errors):.1e}.")
-    print(f"{sum(off > 0 for off in outside)} exact values lie outside their bracket, by at most {max(outside):.1e} of the value.\n")
+    count = sum(off > 0 for off in outside)
+    print(f"{count} exact values lie outside their bracket, by at most {max(outside):.1e} of the value.\n")
 
 
 def named(answer):
@@ -308,9 +309,11 @@ def print_checks(count):
             true = disc_digits(a, a.truth())
             error = checks.wronskian_error(a.c, a.four[:2], a.four[2:])
             alone.count(true, checks.digits(error))
-            disc.count(true, checks.digits(error + checks.recurrence_error(a.kind, a.m, a.n, a.c, a.value, a.d)))
+            error += checks.recurrence_error(a.kind, a.m, a.n, a.c, a.value, a.d)
+            disc.count(true, checks.digits(error))
     print("### The checks\n")
-    print(f"| check | fewer than {ENOUGH} digits | of these silent | {ENOUGH} or more | of these warned |\n|---|---|---|---|---|")
+    print(f"| check | fewer than {ENOUGH} digits | of these silent | {ENOUGH} or more | of these warned |")
+    print("|---|---|---|---|---|")
     for tally in (points, modes, simple, zero, disc, alone):
         print(tally.row())
     print()

@@ -18,29 +18,30 @@ def set_precision(n, c):
 
 
 def matrix(sign, m, parity, c, places):
-    """a, d and g of the recurrence a[i] d[i + 1] + (d[i] - cv) d[i] + g[i] d[i - 1] = 0."""
+    """a, b and g of the recurrence a[i] d[i + 1] + (b[i] - cv) d[i] + g[i] d[i - 1] = 0."""
     square = sign * Decimal(c) * Decimal(c)
-    a, d, g = [], [], []
+    a, b, g = [], [], []
     for k in range(parity, 2 * places + parity, 2):
         s = m + k
         a.append(Decimal((2 * m + k + 2) * (2 * m + k + 1)) / ((2 * s + 3) * (2 * s + 5)) * square)
-        d.append(s * (s + 1) + Decimal(2 * s * (s + 1) - 2 * m * m - 1) / ((2 * s - 1) * (2 * s + 3)) * square)
+        b.append(s * (s + 1) + Decimal(2 * s * (s + 1) - 2 * m * m - 1) / ((2 * s - 1) * (2 * s + 3)) * square)
         g.append(Decimal(k * (k - 1)) / ((2 * s - 3) * (2 * s - 1)) * square)
-    return a, d, g
+    return a, b, g
 
 
-def pivots(a, d, g, value):
+def pivots(a, b, g, value):
     """The pivots from the first place on; as many are below zero as eigenvalues are below the value."""
-    found = [d[0] - value]
-    for i in range(1, len(d)):
-        found.append(d[i] - value - a[i - 1] * g[i] / (found[-1] or Decimal("1e-300")))
+    found = [b[0] - value]
+    for i in range(1, len(b)):
+        found.append(b[i] - value - a[i - 1] * g[i] / (found[-1] or Decimal("1e-300")))
     return found
 
 
-def pivots_back(a, d, g, value):
-    found = [d[-1] - value]
-    for i in range(len(d) - 2, -1, -1):
-        found.append(d[i] - value - a[i] * g[i + 1] / (found[-1] or Decimal("1e-300")))
+def pivots_back(a, b, g, value):
+    """The pivots from the last place on, in the places' order."""
+    found = [b[-1] - value]
+    for i in range(len(b) - 2, -1, -1):
+        found.append(b[i] - value - a[i] * g[i + 1] / (found[-1] or Decimal("1e-300")))
     return found[::-1]
 
 
@@ -54,16 +55,16 @@ def weights(m, parity, places):
     return found
 
 
-def refined(a, d, g, weight, value):
+def refined(a, b, g, weight, value):
     """One Rayleigh step: a better eigenvalue, and the vector, by pivots from both ends."""
-    down, up = pivots(a, d, g, value), pivots_back(a, d, g, value)
-    gaps = [down[i] + up[i] - (d[i] - value) for i in range(len(d))]
-    joint = min(range(len(d)), key=lambda i: abs(gaps[i]))
-    vector = [Decimal(0)] * len(d)
+    down, up = pivots(a, b, g, value), pivots_back(a, b, g, value)
+    gaps = [down[i] + up[i] - (b[i] - value) for i in range(len(b))]
+    joint = min(range(len(b)), key=lambda i: abs(gaps[i]))
+    vector = [Decimal(0)] * len(b)
     vector[joint] = Decimal(1)
     for i in range(joint - 1, -1, -1):
         vector[i] = -a[i] * vector[i + 1] / down[i]
-    for i in range(joint + 1, len(d)):
+    for i in range(joint + 1, len(b)):
         vector[i] = -g[i] * vector[i - 1] / up[i]
     norm = sum(w * v * v for w, v in zip(weight, vector))
     return value + gaps[joint] * weight[joint] / norm, vector
@@ -71,7 +72,8 @@ def refined(a, d, g, weight, value):
 
 @lru_cache(maxsize=512)
 def legendre(m, x, count, precision):
-    """P of order m and degrees m, m + 1, .. at x, and the derivatives (inside (-1, 1) only)."""
+    """P of order m and degrees m, m + 1, .. at x, and the derivatives, none at -1 and 1. The precision
+    is named for the cache."""
     one = 1 - x * x
     root = one.sqrt() ** m if m else Decimal(1)
     for odd in range(1, 2 * m, 2):
@@ -95,18 +97,18 @@ class Mode:
         self.kind, self.m, self.n, self.c = kind, m, n, c
         self.parity, self.index = (n - m) % 2, (n - m) // 2
         places = self.index + int(c) + 60
-        a, d, g = matrix(SIGNS[kind], m, self.parity, c, places)
+        a, b, g = matrix(SIGNS[kind], m, self.parity, c, places)
         self.weight = weights(m, self.parity, places)
         value, limit = Decimal(start), Decimal(10) ** (20 - getcontext().prec)
         for _ in range(20):
             last = value
-            value, vector = refined(a, d, g, self.weight, last)
+            value, vector = refined(a, b, g, self.weight, last)
             if abs(value - last) <= limit * max(1, abs(value)):
                 break
         else:
             raise ArithmeticError(f"no eigenvalue is found for {self.kind} m {m} n {n} c {c}")
         near = max(1, abs(value)) * Decimal("1e-25")
-        counts = [sum(p < 0 for p in pivots(a, d, g, value + side)) for side in (-near, near)]
+        counts = [sum(p < 0 for p in pivots(a, b, g, value + side)) for side in (-near, near)]
         if counts != [self.index, self.index + 1]:
             raise ArithmeticError(f"{start} belongs to another mode than {self.kind} m {m} n {n} c {c}")
         at_zero = self.legendre(Decimal(0))[self.parity]
