@@ -185,7 +185,8 @@ def print_measurements(parameters):
     print("### Characteristic values, prolate and oblate\n")
     print_tables(values, parameters)
     error, _, worst = max(errors, key=lambda found: found[0])
-    print(f"The largest relative error of {len(values)} values is {error:.1e}, {named(worst)}, {worst.value:.4g}.")
+    where = f"{named(worst)}, value {worst.value:.4g}"
+    print(f"The largest relative error of {len(values)} values is {error:.1e}, {where}.")
     print(f"Against the larger of value and c² it is {max(found[1] for found in errors):.1e}.")
     count = sum(off > 0 for off in outside)
     print(f"{count} exact values lie outside their bracket, by at most {max(outside):.1e} of the value.\n")
@@ -206,6 +207,70 @@ def print_near_zero(modes):
             low, high = (middle, high) if answer.value > 0 else (low, middle)
         error = abs(Decimal(answer.value) - answer.truth().value)
         print(f"| {named(answer)} | {answer.value:.1e} | {error:.1e} | {error / abs(answer.truth().value):.1e} |")
+    print()
+
+
+def print_reliable(parameters, largest_order, largest_offset):
+    """The least digits of all modes with small m and n - m."""
+    print(f"### Least digits with m up to {largest_order} and n − m up to {largest_offset}\n")
+    print("| c | angular | coefficients | disc |\n|---|---|---|---|")
+    for c in parameters:
+        numbers = [(m, m + o) for m in range(largest_order + 1) for o in range(largest_offset + 1)]
+        least = [16.0] * 3
+        for answer in answers_of([(kind, m, n, c) for kind in KINDS for m, n in numbers]):
+            truth = answer.truth()
+            found = [min(angular_digits(answer, truth)), coefficient_digits(answer, truth)]
+            found += [disc_digits(answer, truth)] if answer.four else []
+            least = list(map(min, least, found + least[len(found) :]))
+        print(f"| {c:g} | {' | '.join(str(int(digits)) for digits in least)} |")
+    print()
+
+
+# ---- why digits are lost
+
+# What is asked: the angular function at x, or a coefficient.
+EXAMPLES = (
+    ("oblate", 0, 30, 1.0, "S", 0.0),
+    ("oblate", 0, 40, 1.0, "S", 0.0),
+    ("oblate", 0, 0, 20.0, "S", 0.0),
+    ("prolate", 0, 0, 45.0, "S", 1.0),
+    ("oblate", 0, 2, 1e-10, "S", 0.3),
+    ("oblate", 0, 4, 1e-7, "S", 0.3),
+    ("oblate", 0, 42, 1e-3, "coefficient", 21),
+    ("oblate", 0, 150, 0.1, "coefficient", 75),
+    ("oblate", 30, 50, 40.0, "coefficient", 0),
+    ("prolate", 100, 120, 60.0, "coefficient", 0),
+    ("oblate", 114, 114, 1.0, "S", 0.0),
+)
+
+
+def print_examples():
+    print("### Examples of lost digits\n\n| mode | asked | answer | true |\n|---|---|---|---|")
+    for *mode, what, at in EXAMPLES:
+        [answer] = answers_of([tuple(mode)])
+        truth = answer.truth()
+        if what == "S":
+            [lines] = client.ask(str(client.PROGRAM), [record("angular", *mode, answer.value, at)])
+            found, true = doubles(lines)[0], truth.angular(Decimal(at))[0]
+        else:
+            found, true = answer.d[at], truth.d[at]
+        print(f"| {named(answer)} | {what} {at} | {found:.8g} | {true:.8g} |")
+    print()
+
+
+def print_wrong_directions(parameters):
+    """Shares of modes whose coefficients fail the recurrence, at small c."""
+    orders = (range(0, 6), range(6, 13), (20,), (50,), (95,))
+    offsets = range(2, 21)
+    print("### Coefficients of a wrong direction, n − m from 2 to 20\n")
+    print("| c | m 0 to 5 | m 6 to 12 | m 20 | m 50 | m 95 |\n|---|---|---|---|---|---|")
+    for c in parameters:
+        shares = []
+        for group in orders:
+            answers = answers_of([(kind, m, m + o, c) for kind in KINDS for m in group for o in offsets])
+            errors = [checks.recurrence_error(a.kind, a.m, a.n, a.c, a.value, a.d) for a in answers]
+            shares.append(sum(checks.digits(error) < ENOUGH for error in errors) / len(errors))
+        print(f"| {c:.2g} | {' | '.join(f'{share:.0%}' for share in shares)} |")
     print()
 
 
@@ -282,7 +347,7 @@ class Tally:
             self.worst = true if self.worst is None else min(self.worst, true)
 
     def row(self):
-        worst = "" if self.worst is None else f", with {self.worst:.1f} digits or more"
+        worst = "" if self.worst is None else f" (least {self.worst:.1f})"
         return f"| {self.name} | {self.wrong} | {self.missed}{worst} | {self.right} | {self.needless} |"
 
 
@@ -326,6 +391,9 @@ def main(words):
     print_self_test(random_modes(20 if quick else 100, 60, 60, 60, KINDS))
     print_measurements((1e-7, 1.0, 20.0) if quick else PARAMETERS)
     print_near_zero([(0, 1), (1, 1), (2, 6), (10, 12)])
+    print_reliable((1.0,) if quick else (9e-11, 1e-4, 1e-3, 0.03, 1.0, 7.0, 10.0), 12, 15)
+    print_examples()
+    print_wrong_directions((1e-7, 1e-5) if quick else [10 ** (e / 2) for e in range(-20, -5)])
     print_not_finite(10 if quick else 2)
     print_checks(200 if quick else 2000)
 
