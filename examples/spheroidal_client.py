@@ -11,9 +11,15 @@ functions are asked on the disc, x=0, which may be left out. cv is the character
 is left out, it is taken from the mode's row. allowance is the most steps for each value of a row,
 65535 if left out. A number is decimal, or 0x and the 16 digits of a double's bits.
 
-Status 1: something is refused. Status 2: the words are not understood, or the program is missing.
+Angular and radial answers are checked (docs/ACCURACY.md): where fewer than 6 digits are left or a
+number is not finite, a warning is printed on the error output. The table stays as it is.
+
+Status 1: something is refused. Status 2: the words are not understood, or the program is missing. A
+warning does not change the status.
 """
 import argparse
+import ctypes
+import math
 import os
 import re
 import struct
@@ -21,7 +27,12 @@ import subprocess
 import sys
 from pathlib import Path
 
-PROGRAM = Path(__file__).resolve().parent.parent / "target" / "bin" / "spheroidal"
+sys.dont_write_bytecode = True  # nothing is written beside the sources
+import spheroidal_checks as checks
+
+TARGET = Path(__file__).resolve().parent.parent / "target"
+PROGRAM = TARGET / "bin" / "spheroidal"
+LIBRARY = TARGET / "spheroidal" / "lib" / "libspheroidal_c.so"
 OPERATIONS = {
     ("row", "prolate"): 1,
     ("row", "oblate"): 2,
@@ -51,6 +62,7 @@ REFUSALS = {
 # How many words follow the record's number on a line.
 WORDS = {"V": 5, "D": 2, "A": 4, "F": 6, "R": 1}
 MOST_POINTS = 10_000
+LEAST_DIGITS = 6
 
 
 class Misunderstood(Exception):
@@ -158,6 +170,49 @@ def ask_row(program, what, kind, fields):
     return lines
 
 
+def say(sentence):
+    """On the error output, after what was printed so far."""
+    sys.stdout.flush()
+    print(f"{Path(sys.argv[0]).name}: {sentence}", file=sys.stderr)
+
+
+def coefficients(path, kind, fields, cv):
+    """The mode's expansion coefficients, or None where the library is not there."""
+    try:
+        library = ctypes.CDLL(os.path.abspath(path))
+        return checks.coefficients(library, kind, fields["m"], fields["n"], fields["c"], cv)
+    except (OSError, AttributeError):
+        say(f"the recurrence was not checked: {path} cannot be loaded (./build makes the library)")
+        return None
+
+
+def errors_of(program, what, kind, fields, cv, d, answers):
+    """Pairs of x and the error that is expected there, by all the checks that can be made."""
+    m, n, c = fields["m"], fields["n"], fields["c"]
+    xs, numbers = zip(*answers)
+    if what == "radial":
+        unfit = checks.recurrence_error(kind, m, n, c, cv, d) if d else 0.0
+        return [(x, checks.wronskian_error(c, four[:2], four[2:]) + unfit) for x, four in answers]
+    if d:
+        return list(zip(xs, checks.angular_errors(kind, m, n, c, cv, d, xs, numbers)))
+    [[words]] = ask(program, [record(OPERATIONS[what, kind], fields, cv)])
+    return [(0.0, checks.error_at_zero(m, n, [double(digits) for digits in words[3:]]))]
+
+
+def warn(answers, errors):
+    """Says where numbers are not finite and where few digits are left."""
+    broken = {x for x, numbers in answers if not all(map(math.isfinite, numbers))}
+    if broken:
+        say(f"warning: NaN or infinity at {len(broken)} of {len(answers)} x (docs/ACCURACY.md)")
+    few = [(checks.digits(error), x) for x, error in errors if x not in broken]
+    few = [(digits, x) for digits, x in few if digits < LEAST_DIGITS]
+    if few:
+        digits, x = min(few)
+        where = f"{len(few)} of {len(errors)} x, the fewest at x = {x!r}" if len(errors) > 1 else f"x = {x!r}"
+        left = f"about {digits}" if digits else "none"
+        say(f"warning: fewer than {LEAST_DIGITS} digits are right at {where}: {left} (docs/ACCURACY.md)")
+
+
 def print_table(heads, rows):
     widths = [max(map(len, column)) for column in zip(heads, *rows)]
     for row in [heads, *rows]:
@@ -197,6 +252,7 @@ def run(options):
         raise Misunderstood("--plot is for angular functions with x=start:stop:count")
     pyplot = plotter() if options.plot else None
     program = options.program or os.environ.get("SPHEROIDAL") or str(PROGRAM)
+    library = options.library or os.environ.get("SPHEROIDAL_LIBRARY") or str(LIBRARY)
 
     def show(digits):
         return digits if options.bits else repr(double(digits))
@@ -223,17 +279,20 @@ def run(options):
     heads = ["x", "value", "derivative"]
     if what == "radial":
         heads = ["x", "first kind", "derivative", "second kind", "derivative"]
-    rows, refused = [], []
+    rows, refused, accepted = [], [], []
     for x, [[letter, *words]] in zip(xs, answers):
         if letter == "R":
             refused.append(int(words[0]))
             words = [f"refused {words[0]}"] * (len(heads) - 1)
         else:
+            accepted.append((x, [double(digits) for digits in words[2:]]))
             words = [show(digits) for digits in words[2:]]
         rows.append([show(struct.pack(">d", x).hex()), *words])
-    if len(refused) < len(rows):
+    if accepted:
         print(f"{title}, cv = {show(struct.pack('>d', cv).hex())}")
         print_table(heads, rows)
+        d = coefficients(library, kind, fields, cv)
+        warn(accepted, errors_of(program, what, kind, fields, cv, d, accepted))
     if refused:
         raise Refused(refused[0], what)
     if pyplot:
@@ -248,16 +307,17 @@ def main():
     parser.add_argument("--bits", action="store_true", help="print doubles as the 16 digits of their bits")
     parser.add_argument("--plot", metavar="FILE", help="plot an angular function (needs matplotlib)")
     parser.add_argument("--program", help="the record program; by default SPHEROIDAL or target/bin/spheroidal")
+    parser.add_argument("--library", help="the library for the checks; by default SPHEROIDAL_LIBRARY or what ./build makes")
     try:
         try:
             run(parser.parse_intermixed_args())
         finally:
             sys.stdout.flush()
     except Misunderstood as error:
-        print(f"{parser.prog}: {error}", file=sys.stderr)
+        say(error)
         return 2
     except Refused as error:
-        print(f"{parser.prog}: {error}", file=sys.stderr)
+        say(error)
         return 1
     except BrokenPipeError:
         # the reader has gone, as with | head; nothing is left to be printed

@@ -1,0 +1,108 @@
+"""Checks that a caller can run on an answer: how far off it may be, from answers alone. The formulas,
+and how often the checks err, stand in docs/ACCURACY.md. An error is relative, and NaN where it cannot
+be formed. m, n, c and cv are the mode's; d are its expansion coefficients.
+"""
+import ctypes
+import math
+
+SIGNS = {"prolate": 1, "oblate": -1}
+COEFFICIENTS = 200
+
+
+def digits(error):
+    """How many digits an error leaves, from 0 to 16; none where it is NaN."""
+    if not error < 1:
+        return 0
+    return min(16, int(-math.log10(error))) if error > 0 else 16
+
+
+def ratio(above, below):
+    return above / below if below else math.nan
+
+
+def coefficients(library, kind, m, n, c, cv):
+    """The expansion coefficients, by the shared library as ctypes loads it; None where it refuses."""
+    call = getattr(library, f"spheroidal_{kind}_coefficients")
+    call.restype = ctypes.c_uint8
+    call.argtypes = [ctypes.c_uint16] * 2 + [ctypes.c_double] * 2 + [ctypes.c_void_p, ctypes.c_size_t]
+    values = (ctypes.c_double * COEFFICIENTS)()
+    return None if call(m, n, c, cv, values, COEFFICIENTS) else list(values)
+
+
+def recurrence_error(kind, m, n, c, cv, d):
+    """How far d is from the mode's direction: its residual in the three-term recurrence over n + 1,
+    which is below the distance to the next characteristic value of this parity. Each place is
+    weighted with the norm of its Legendre function."""
+    square, weight, residual, size = SIGNS[kind] * c * c, 1.0, [], []
+    for i, (below, here, above) in enumerate(zip([0.0, *d], d, [*d[1:], 0.0])):
+        k = 2 * i + (n - m) % 2
+        s = m + k
+        if i > 0:
+            weight *= math.sqrt((2 * m + k) * (2 * m + k - 1) / (k * (k - 1)) * (2 * s - 3) / (2 * s + 1))
+        a = (2 * m + k + 2) * (2 * m + k + 1) / ((2 * s + 3) * (2 * s + 5)) * square
+        b = s * (s + 1) + (2 * s * (s + 1) - 2 * m * m - 1) / ((2 * s - 1) * (2 * s + 3)) * square
+        g = k * (k - 1) / ((2 * s - 3) * (2 * s - 1)) * square
+        residual.append(weight * (a * above + (b - cv) * here + g * below))
+        size.append(weight * here)
+    return ratio(math.hypot(*residual), math.hypot(*size)) / (n + 1)
+
+
+def legendre_at_zero(m, odd, count):
+    """P(0) of order m and degrees m, m + 2, .., or P'(0) of degrees m + 1, m + 3, .. where odd is 1;
+    without the Condon-Shortley sign."""
+    values = [math.prod(map(float, range(1, 2 * (m + odd), 2)))]
+    for k in range(2, 2 * count, 2):
+        values.append(values[-1] * -(2 * (m + odd) + k - 1) / k)
+    return values
+
+
+def error_at_zero(m, n, pair):
+    """S(0), or S'(0) where n - m is odd, against the Legendre function's, from the pair at x = 0."""
+    odd = (n - m) % 2
+    return abs(ratio(pair[odd], legendre_at_zero(m, odd, (n - m) // 2 + 1)[-1]) - 1)
+
+
+def cancellation_at_zero(m, n, d):
+    """The sizes of the terms d P(0) that normalise d, in units of their sum."""
+    values = legendre_at_zero(m, (n - m) % 2, len(d))
+    return ratio(sum(abs(v * p) for v, p in zip(d, values) if v), abs(values[(n - m) // 2]))
+
+
+def legendre(m, x, count):
+    """P of order m and degrees m, m + 1, .. at x, and the derivatives, which are left out at -1, 1."""
+    square = 1 - x * x
+    values = [math.prod(odd * math.sqrt(square) for odd in range(1, 2 * m, 2))]
+    values.append((2 * m + 1) * x * values[0])
+    for l in range(m + 1, m + count - 1):
+        values.append(((2 * l + 1) * x * values[-1] - (l + m) * values[-2]) / (l - m + 1))
+    if square == 0:
+        return values, [0.0] * count
+    below = [0.0, *values]
+    return values, [((2 * m + i) * below[i] - (m + i) * x * values[i]) / square for i in range(count)]
+
+
+def sum_at(m, n, c, d, x, pair):
+    """The pair at x against the sums of d over Legendre functions, and the sizes of their terms, both
+    in units of the function's size around x."""
+    if abs(x) == 1 and m > 0:
+        return 0.0, 1.0  # S is zero there
+    used = [i for i, value in enumerate(d) if value] or [0]
+    values, slopes = legendre(m, x, 2 * used[-1] + 3)
+    unit = math.sqrt(1 - x * x) / (n + 1 + c)
+    terms = [d[i] * values[2 * i + (n - m) % 2] for i in used]
+    slope_terms = [d[i] * slopes[2 * i + (n - m) % 2] * unit for i in used]
+    size = math.hypot(sum(terms), sum(slope_terms))
+    off = max(abs(pair[0] - sum(terms)), abs(pair[1] * unit - sum(slope_terms)))
+    return ratio(off, size), ratio(sum(map(abs, terms + slope_terms)), size)
+
+
+def angular_errors(kind, m, n, c, cv, d, xs, pairs):
+    """The error of each pair of an angular function's value and derivative."""
+    uncertain, at_zero = recurrence_error(kind, m, n, c, cv, d), cancellation_at_zero(m, n, d)
+    sums = [sum_at(m, n, c, d, x, pair) for x, pair in zip(xs, pairs)]
+    return [off + uncertain * (at_zero + cancellation) for off, cancellation in sums]
+
+
+def wronskian_error(c, first, second):
+    """c (R1 R2' - R1' R2) - 1 from the pairs of both kinds. On the disc it is zero."""
+    return abs(c * (first[0] * second[1] - first[1] * second[0]) - 1)

@@ -1,0 +1,402 @@
+"""Prints the tables of docs/ACCURACY.md: right digits of characteristic values, coefficients, angular
+functions and radial functions on the disc, all from the record program and the library, against the
+high-precision reference; and how often the checks for callers err.
+"""
+import ctypes
+import math
+import random
+import sys
+from dataclasses import dataclass
+from decimal import Decimal
+from pathlib import Path
+
+from reference import Mode
+
+REPOSITORY = Path(__file__).resolve().parents[2]
+sys.path.insert(0, str(REPOSITORY / "examples"))
+import spheroidal_checks as checks
+import spheroidal_client as client
+
+KINDS = ("prolate", "oblate")
+PARAMETERS = (1e-8, 1e-7, 1e-6, 1e-5, 1e-3, 0.1, 1.0, 2.0, 5.0, 10.0, 20.0, 40.0, 80.0, 120.0)
+ORDERS = (0, 1, 2, 3, 5, 8, 12, 20, 30, 50, 80, 120)
+OFFSETS = (0, 1, 2, 3, 5, 10, 15, 20, 25, 30, 40, 60)
+# What the tables call small.
+SMALL_OFFSET, SMALL_ORDER = 10, 5
+ARGUMENTS = (0.0, 0.1, 0.3, 0.5, 0.7, 0.9, 0.99)
+ENOUGH = client.LEAST_DIGITS
+LIBRARY = ctypes.CDLL(str(client.LIBRARY))
+
+
+@dataclass
+class Answer:
+    """What the program and the library answer for a mode, with the row's own value."""
+
+    kind: str
+    m: int
+    n: int
+    c: float
+    value: float
+    lower: float
+    upper: float
+    d: list = None
+    pairs: list = None
+    four: list = None
+
+    def truth(self):
+        return Mode(self.kind, self.m, self.n, self.c, self.value)
+
+
+# ---- asking
+
+
+def doubles(lines):
+    """The doubles of a pair's or a quadruple's line, or None for a refusal."""
+    [[letter, *words]] = lines
+    return None if letter == "R" else [client.double(word) for word in words[2:]]
+
+
+def answers_of(modes):
+    """The answers for modes (kind, m, n, c), in this order; those whose coefficients are refused are
+    left out."""
+    lasts = {}
+    for kind, m, n, c in modes:
+        lasts[kind, m, c] = max(n, lasts.get((kind, m, c), m))
+    records = [record("row", kind, m, n, c) for (kind, m, c), n in lasts.items()]
+    rows = dict(zip(lasts, client.ask(str(client.PROGRAM), records)))
+    answers = []
+    for kind, m, n, c in modes:
+        value, lower, upper = map(client.double, rows[kind, m, c][n - m][3:])
+        d = checks.coefficients(LIBRARY, kind, m, n, c, value)
+        if d:
+            answers.append(Answer(kind, m, n, c, value, lower, upper, d))
+    asked = [record("angular", a.kind, a.m, a.n, a.c, a.value, x) for a in answers for x in ARGUMENTS]
+    pairs = list(map(doubles, client.ask(str(client.PROGRAM), asked)))
+    asked = [record("radial", "oblate", a.m, a.n, a.c, a.value) for a in answers]
+    fours = map(doubles, client.ask(str(client.PROGRAM), asked))
+    for i, (answer, four) in enumerate(zip(answers, fours)):
+        answer.pairs = pairs[i * len(ARGUMENTS) : (i + 1) * len(ARGUMENTS)]
+        answer.four = four if answer.kind == "oblate" else None
+    return answers
+
+
+def record(what, kind, m, n, c, cv=0.0, x=0.0):
+    return client.record(client.OPERATIONS[what, kind], {"m": m, "n": n, "c": c}, cv, x)
+
+
+# ---- measuring: right digits, from 0 to 16
+
+
+def digits(error):
+    return 16.0 if not error else min(16.0, max(0.0, -float(Decimal(error).log10())))
+
+
+def relative(found, true):
+    return digits(abs(Decimal(found) / true - 1)) if math.isfinite(found) else 0.0
+
+
+def coefficient_digits(answer, truth):
+    """Of the function that the coefficients expand, in the mean over x."""
+    if not all(map(math.isfinite, answer.d)):
+        return 0.0
+    off = sum(w * (Decimal(v) - d) ** 2 for w, v, d in zip(truth.weight, answer.d, truth.d))
+    return digits((off / sum(w * d * d for w, d in zip(truth.weight, truth.d))).sqrt())
+
+
+def angular_digits(answer, truth):
+    """At each x, of value and derivative, against the function's size around x."""
+    found = []
+    for x, (value, slope) in zip(map(Decimal, ARGUMENTS), answer.pairs):
+        if not math.isfinite(value) or not math.isfinite(slope):
+            found.append(0.0)
+            continue
+        true, true_slope = truth.angular(x)
+        unit = (1 - x * x).sqrt() / (truth.n + 1 + Decimal(truth.c))
+        size = (true**2 + (unit * true_slope) ** 2).sqrt()
+        off = max(abs(Decimal(value) - true), unit * abs(Decimal(slope) - true_slope))
+        found.append(digits(off / size))
+    return found
+
+
+def disc_digits(answer, truth):
+    """The least of the three numbers that are not zero."""
+    odd = truth.parity
+    first, (value, slope) = truth.first_on_disc(), truth.second_on_disc()
+    pairs = [(answer.four[odd], first), (answer.four[2], value), (answer.four[3], slope)]
+    return min(relative(found, true) for found, true in pairs)
+
+
+def wronskian_digits(answer):
+    error = checks.wronskian_error(answer.c, answer.four[:2], answer.four[2:])
+    return digits(error) if math.isfinite(error) else 0.0
+
+
+# ---- tables
+
+
+def print_tables(measured, parameters):
+    """Least and median digits by c and m, then by c and n - m; `measured` has digits by mode."""
+    by_order = lambda c, m: [d for (m2, n, c2), d in measured if (m2, c2) == (m, c) and n - m <= SMALL_OFFSET]
+    by_offset = lambda c, o: [d for (m, n, c2), d in measured if c2 == c and n - m == o and m <= SMALL_ORDER]
+    orders = ", ".join(str(m) for m in ORDERS if m <= SMALL_ORDER)
+    for heading, name, columns, cell in (
+        (f"By c and m, over n − m from 0 to {SMALL_OFFSET}:", "m", ORDERS, by_order),
+        (f"By c and n − m, over m of {orders}:", "n − m", OFFSETS, by_offset),
+    ):
+        print(f"{heading}\n\n| c | {' | '.join(f'{name} {column}' for column in columns)} |")
+        print("|" + "---|" * (len(columns) + 1))
+        for c in parameters:
+            cells = [least_and_median(cell(c, column)) for column in columns]
+            print(f"| {c:g} | {' | '.join(cells)} |")
+        print()
+
+
+def least_and_median(found):
+    found = sorted(found)
+    return f"{int(found[0])}, {int(found[len(found) // 2])}" if found else "-"
+
+
+def table_modes(kind, parameters):
+    wide = [(m, m + o) for m in ORDERS for o in range(SMALL_OFFSET + 1)]
+    long = [(m, m + o) for m in ORDERS if m <= SMALL_ORDER for o in OFFSETS]
+    return [(kind, m, n, c) for c in parameters for m, n in sorted({*wide, *long})]
+
+
+def print_measurements(parameters):
+    values, errors, outside = [], [], []
+    for kind in KINDS:
+        tables = {"angular functions": [], "coefficients": []}
+        if kind == "oblate":
+            tables |= {"radial functions on the disc": [], "radial functions on the disc, by the Wronskian": []}
+        for answer in answers_of(table_modes(kind, parameters)):
+            truth, key = answer.truth(), (answer.m, answer.n, answer.c)
+            values.append((key, relative(answer.value, truth.value)))
+            off, size = abs(Decimal(answer.value) - truth.value), abs(truth.value)
+            errors.append((off / size, off / max(size, Decimal(answer.c) ** 2), answer))
+            outside.append(max(Decimal(answer.lower) - truth.value, truth.value - Decimal(answer.upper)) / size)
+            tables["angular functions"].append((key, min(angular_digits(answer, truth))))
+            tables["coefficients"].append((key, coefficient_digits(answer, truth)))
+            if answer.four:
+                tables["radial functions on the disc"].append((key, disc_digits(answer, truth)))
+                tables["radial functions on the disc, by the Wronskian"].append((key, wronskian_digits(answer)))
+        for name, measured in tables.items():
+            print(f"### {kind.capitalize()} {name}\n")
+            print_tables(measured, parameters)
+    print("### Characteristic values, prolate and oblate\n")
+    print_tables(values, parameters)
+    error, _, worst = max(errors, key=lambda found: found[0])
+    where = f"{named(worst)}, value {worst.value:.4g}"
+    print(f"The largest relative error of {len(values)} values is {error:.1e}, {where}.")
+    print(f"Against the larger of value and c² it is {max(found[1] for found in errors):.1e}.")
+    count = sum(off > 0 for off in outside)
+    print(f"{count} exact values lie outside their bracket, by at most {max(outside):.1e} of the value.\n")
+
+
+def named(answer):
+    return f"{answer.kind} m {answer.m} n {answer.n} c {answer.c!r}"
+
+
+def print_near_zero(modes):
+    """Oblate values at those c where they pass through zero, found by bisection."""
+    print("| mode | value | absolute error | relative error |\n|---|---|---|---|")
+    for m, n in modes:
+        low, high = 0.0, 100.0
+        while low < (low + high) / 2 < high:
+            middle = (low + high) / 2
+            [answer] = answers_of([("oblate", m, n, middle)])
+            low, high = (middle, high) if answer.value > 0 else (low, middle)
+        error = abs(Decimal(answer.value) - answer.truth().value)
+        print(f"| {named(answer)} | {answer.value:.1e} | {error:.1e} | {error / abs(answer.truth().value):.1e} |")
+    print()
+
+
+def print_reliable(parameters, largest_order, largest_offset):
+    """The least digits of all modes with small m and n - m."""
+    print(f"### Least digits with m up to {largest_order} and n − m up to {largest_offset}\n")
+    print("| c | angular | coefficients | disc |\n|---|---|---|---|")
+    for c in parameters:
+        numbers = [(m, m + o) for m in range(largest_order + 1) for o in range(largest_offset + 1)]
+        least = [16.0] * 3
+        for answer in answers_of([(kind, m, n, c) for kind in KINDS for m, n in numbers]):
+            truth = answer.truth()
+            found = [min(angular_digits(answer, truth)), coefficient_digits(answer, truth)]
+            found += [disc_digits(answer, truth)] if answer.four else []
+            least = list(map(min, least, found + least[len(found) :]))
+        print(f"| {c:g} | {' | '.join(str(int(digits)) for digits in least)} |")
+    print()
+
+
+# ---- why digits are lost
+
+# What is asked: the angular function at x, or a coefficient.
+EXAMPLES = (
+    ("oblate", 0, 30, 1.0, "S", 0.0),
+    ("oblate", 0, 40, 1.0, "S", 0.0),
+    ("oblate", 0, 0, 20.0, "S", 0.0),
+    ("prolate", 0, 0, 45.0, "S", 1.0),
+    ("oblate", 0, 2, 1e-10, "S", 0.3),
+    ("oblate", 0, 4, 1e-7, "S", 0.3),
+    ("oblate", 0, 42, 1e-3, "coefficient", 21),
+    ("oblate", 0, 150, 0.1, "coefficient", 75),
+    ("oblate", 30, 50, 40.0, "coefficient", 0),
+    ("prolate", 100, 120, 60.0, "coefficient", 0),
+    ("oblate", 114, 114, 1.0, "S", 0.0),
+)
+
+
+def print_examples():
+    print("### Examples of lost digits\n\n| mode | asked | answer | true |\n|---|---|---|---|")
+    for *mode, what, at in EXAMPLES:
+        [answer] = answers_of([tuple(mode)])
+        truth = answer.truth()
+        if what == "S":
+            [lines] = client.ask(str(client.PROGRAM), [record("angular", *mode, answer.value, at)])
+            found, true = doubles(lines)[0], truth.angular(Decimal(at))[0]
+        else:
+            found, true = answer.d[at], truth.d[at]
+        print(f"| {named(answer)} | {what} {at} | {found:.8g} | {true:.8g} |")
+    print()
+
+
+def print_wrong_directions(parameters):
+    """Shares of modes whose coefficients fail the recurrence, at small c."""
+    orders = (range(0, 6), range(6, 13), (20,), (50,), (95,))
+    offsets = range(2, 21)
+    print("### Coefficients of a wrong direction, n − m from 2 to 20\n")
+    print("| c | m 0 to 5 | m 6 to 12 | m 20 | m 50 | m 95 |\n|---|---|---|---|---|---|")
+    for c in parameters:
+        shares = []
+        for group in orders:
+            answers = answers_of([(kind, m, m + o, c) for kind in KINDS for m in group for o in offsets])
+            errors = [checks.recurrence_error(a.kind, a.m, a.n, a.c, a.value, a.d) for a in answers]
+            shares.append(sum(checks.digits(error) < ENOUGH for error in errors) / len(errors))
+        print(f"| {c:.2g} | {' | '.join(f'{share:.0%}' for share in shares)} |")
+    print()
+
+
+# ---- the reference held against itself
+
+
+def print_self_test(modes):
+    """The sum over Legendre functions against the power series of the differential equation, and the
+    Wronskian of the radial functions."""
+    least = {"power series": 99, "Wronskian": 99}
+    for answer in answers_of(modes):
+        truth, x = answer.truth(), Decimal("0.6")
+        agreement = {"power series": truth.angular(x)[0] / truth.angular_by_powers(x) - 1}
+        if answer.kind == "oblate":
+            value, slope = truth.second_on_disc()
+            product = -value if truth.parity else slope
+            agreement["Wronskian"] = Decimal(truth.c) * truth.first_on_disc() * product - 1
+        for name, error in agreement.items():
+            least[name] = min(least[name], -float(abs(error).log10()) if error else 99)
+    print(f"The reference against itself in {len(modes)} modes: ", end="")
+    print(", ".join(f"{int(found)} digits by the {name}" for name, found in least.items()) + ".\n")
+
+
+# ---- not a number
+
+
+def print_not_finite(step):
+    """Shares of all accepted modes that are answered with NaN or infinity."""
+    print("### Answers that are not finite\n")
+    print("| kind | c | modes | coefficients | angular | radial | from m on at n = m | from n on at m = 60 |")
+    print("|---|---|---|---|---|---|---|---|")
+    for kind in KINDS:
+        for c in (1e-3, 1.0, 30.0):
+            modes = [(kind, m, m + o, c) for m in range(0, 200, step) for o in range(0, 200, step)]
+            answers = answers_of(modes)
+            broken = lambda numbers: not all(map(math.isfinite, numbers))
+            lost = [a for a in answers if any(map(broken, a.pairs))]
+            shares = [sum(broken(a.d) for a in answers) / len(answers), len(lost) / len(answers)]
+            radial = [a for a in answers if a.four]
+            shares.append(sum(broken(a.four) for a in radial) / len(radial) if radial else None)
+            cells = ["-" if share is None else f"{share:.0%}" for share in shares]
+            edges = min(a.m for a in lost if a.n == a.m), min(a.n for a in lost if a.m == 60)
+            print(f"| {kind} | {c:g} | {len(answers)} | {' | '.join(cells)} | {edges[0]} | {edges[1]} |")
+    print()
+
+
+# ---- the checks for callers
+
+
+def random_modes(count, largest_order, largest_offset, largest_c, kinds):
+    """Small and large m, n - m and c, of each about as many."""
+    choice, modes = random.Random(20261116), []
+    pick = lambda *limits: choice.randrange(choice.choice(limits))
+    while len(modes) < count:
+        m, offset = pick(4, 15, largest_order), pick(4, 15, largest_offset)
+        spans = (-9.9, -4), (-4, 0), (-0.5, 1.5)
+        c = choice.choice([10 ** choice.uniform(*span) for span in spans] + [choice.uniform(0, largest_c)] * 2)
+        modes.append((choice.choice(kinds), m, m + offset, c))
+    return modes
+
+
+class Tally:
+    """How a check errs: warnings where digits are enough, silence where they are not."""
+
+    def __init__(self, name):
+        self.name, self.right, self.wrong, self.needless, self.missed, self.worst = name, 0, 0, 0, 0, None
+
+    def count(self, true, estimated):
+        self.right += true >= ENOUGH
+        self.wrong += true < ENOUGH
+        self.needless += true >= ENOUGH > estimated
+        if true < ENOUGH <= estimated:
+            self.missed += 1
+            self.worst = true if self.worst is None else min(self.worst, true)
+
+    def row(self):
+        worst = "" if self.worst is None else f" (least {self.worst:.1f})"
+        return f"| {self.name} | {self.wrong} | {self.missed}{worst} | {self.right} | {self.needless} |"
+
+
+def print_checks(count):
+    finite = lambda numbers: all(map(math.isfinite, numbers))
+    points, modes = Tally("client, each x"), Tally("client, least over x")
+    simple, zero = Tally("recurrence and S(0)"), Tally("S(0) alone")
+    for a in answers_of(random_modes(count, 110, 100, 120, KINDS)):
+        if not finite(a.d) or not all(map(finite, a.pairs)):
+            continue
+        true = angular_digits(a, a.truth())
+        errors = checks.angular_errors(a.kind, a.m, a.n, a.c, a.value, a.d, ARGUMENTS, a.pairs)
+        estimated = list(map(checks.digits, errors))
+        for pair in zip(true, estimated):
+            points.count(*pair)
+        modes.count(min(true), min(estimated))
+        at_zero = checks.digits(checks.error_at_zero(a.m, a.n, a.pairs[0]))
+        unfit = checks.digits(checks.recurrence_error(a.kind, a.m, a.n, a.c, a.value, a.d))
+        simple.count(min(true), min(at_zero, unfit))
+        zero.count(min(true), at_zero)
+    disc, alone = Tally("client, disc"), Tally("Wronskian alone")
+    for a in answers_of(random_modes(count * 3 // 4, 60, 40, 60, ("oblate",))):
+        if a.four and finite(a.four) and finite(a.d):
+            true = disc_digits(a, a.truth())
+            error = checks.wronskian_error(a.c, a.four[:2], a.four[2:])
+            alone.count(true, checks.digits(error))
+            error += checks.recurrence_error(a.kind, a.m, a.n, a.c, a.value, a.d)
+            disc.count(true, checks.digits(error))
+    print("### The checks\n")
+    print(f"| check | fewer than {ENOUGH} digits | of these silent | {ENOUGH} or more | of these warned |")
+    print("|---|---|---|---|---|")
+    for tally in (points, modes, simple, zero, disc, alone):
+        print(tally.row())
+    print()
+
+
+def main(words):
+    if words not in ([], ["quick"]):
+        sys.exit("usage: tests/accuracy/run [quick]")
+    quick = bool(words)
+    print_self_test(random_modes(20 if quick else 100, 60, 60, 60, KINDS))
+    print_measurements((1e-7, 1.0, 20.0) if quick else PARAMETERS)
+    print_near_zero([(0, 1), (1, 1), (2, 6), (10, 12)])
+    print_reliable((1.0,) if quick else (9e-11, 1e-4, 1e-3, 0.03, 1.0, 7.0, 10.0), 12, 15)
+    print_examples()
+    print_wrong_directions((1e-7, 1e-5) if quick else [10 ** (e / 2) for e in range(-20, -5)])
+    print_not_finite(10 if quick else 2)
+    print_checks(200 if quick else 2000)
+
+
+if __name__ == "__main__":
+    main(sys.argv[1:])

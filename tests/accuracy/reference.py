@@ -1,0 +1,210 @@
+"""Spheroidal functions in high precision, as the accuracy test's reference.
+
+An eigenvalue of the tridiagonal matrix, its vector d in Flammer's normalisation, the angular function
+as the sum of d over associated Legendre functions without the Condon-Shortley sign, and both oblate
+radial functions on the disc. All in decimal floating point, with as many digits as the sums lose and
+some 60 more.
+"""
+from decimal import Decimal, getcontext
+from functools import lru_cache
+from math import factorial, prod
+
+SIGNS = {"prolate": 1, "oblate": -1}
+
+
+def set_precision(n, c):
+    """The normalisation loses about e^c, and the power series of the self-test about 2.5^n."""
+    getcontext().prec = 60 + int(0.9 * c + 0.45 * n)
+
+
+def matrix(sign, m, parity, c, places):
+    """a, b and g of the recurrence a[i] d[i + 1] + (b[i] - cv) d[i] + g[i] d[i - 1] = 0."""
+    square = sign * Decimal(c) * Decimal(c)
+    a, b, g = [], [], []
+    for k in range(parity, 2 * places + parity, 2):
+        s = m + k
+        a.append(Decimal((2 * m + k + 2) * (2 * m + k + 1)) / ((2 * s + 3) * (2 * s + 5)) * square)
+        b.append(s * (s + 1) + Decimal(2 * s * (s + 1) - 2 * m * m - 1) / ((2 * s - 1) * (2 * s + 3)) * square)
+        g.append(Decimal(k * (k - 1)) / ((2 * s - 3) * (2 * s - 1)) * square)
+    return a, b, g
+
+
+def pivots(a, b, g, value):
+    """The pivots from the first place on; as many are below zero as eigenvalues are below the value."""
+    found = [b[0] - value]
+    for i in range(1, len(b)):
+        found.append(b[i] - value - a[i - 1] * g[i] / (found[-1] or Decimal("1e-300")))
+    return found
+
+
+def pivots_back(a, b, g, value):
+    """The pivots from the last place on, in the places' order."""
+    found = [b[-1] - value]
+    for i in range(len(b) - 2, -1, -1):
+        found.append(b[i] - value - a[i] * g[i + 1] / (found[-1] or Decimal("1e-300")))
+    return found[::-1]
+
+
+def weights(m, parity, places):
+    """The squared norms of the Legendre functions on (-1, 1), in units of the first."""
+    found = [Decimal(1)]
+    for i in range(1, places):
+        k = 2 * i + parity
+        factor = Decimal((k + 2 * m) * (k + 2 * m - 1)) / (k * (k - 1))
+        found.append(found[-1] * factor * (2 * m + 2 * k - 3) / (2 * m + 2 * k + 1))
+    return found
+
+
+def refined(a, b, g, weight, value):
+    """One Rayleigh step: a better eigenvalue, and the vector, by pivots from both ends."""
+    down, up = pivots(a, b, g, value), pivots_back(a, b, g, value)
+    gaps = [down[i] + up[i] - (b[i] - value) for i in range(len(b))]
+    joint = min(range(len(b)), key=lambda i: abs(gaps[i]))
+    vector = [Decimal(0)] * len(b)
+    vector[joint] = Decimal(1)
+    for i in range(joint - 1, -1, -1):
+        vector[i] = -a[i] * vector[i + 1] / down[i]
+    for i in range(joint + 1, len(b)):
+        vector[i] = -g[i] * vector[i - 1] / up[i]
+    norm = sum(w * v * v for w, v in zip(weight, vector))
+    return value + gaps[joint] * weight[joint] / norm, vector
+
+
+@lru_cache(maxsize=512)
+def legendre(m, x, count, precision):
+    """P of order m and degrees m, m + 1, .. at x, and the derivatives, none at -1 and 1. The precision
+    is named for the cache."""
+    one = 1 - x * x
+    root = one.sqrt() ** m if m else Decimal(1)
+    for odd in range(1, 2 * m, 2):
+        root *= odd
+    values = [root, (2 * m + 1) * x * root]
+    for l in range(m + 1, m + count - 1):
+        values.append(((2 * l + 1) * x * values[-1] - (l + m) * values[-2]) / (l - m + 1))
+    if not one:
+        return values, None
+    below = [Decimal(0), *values]
+    slopes = [((m + i + m) * below[i] - (m + i) * x * values[i]) / one for i in range(count)]
+    return values, slopes
+
+
+class Mode:
+    """One mode. `start` is its characteristic value, right to some digits: the nearest eigenvalue is
+    taken, and that it is the mode's is tested by the count of eigenvalues below it."""
+
+    def __init__(self, kind, m, n, c, start):
+        set_precision(n, c)
+        self.kind, self.m, self.n, self.c = kind, m, n, c
+        self.parity, self.index = (n - m) % 2, (n - m) // 2
+        places = self.index + int(c) + 60
+        a, b, g = matrix(SIGNS[kind], m, self.parity, c, places)
+        self.weight = weights(m, self.parity, places)
+        value, limit = Decimal(start), Decimal(10) ** (20 - getcontext().prec)
+        for _ in range(20):
+            last = value
+            value, vector = refined(a, b, g, self.weight, last)
+            if abs(value - last) <= limit * max(1, abs(value)):
+                break
+        else:
+            raise ArithmeticError(f"no eigenvalue is found for {self.kind} m {m} n {n} c {c}")
+        near = max(1, abs(value)) * Decimal("1e-25")
+        counts = [sum(p < 0 for p in pivots(a, b, g, value + side)) for side in (-near, near)]
+        if counts != [self.index, self.index + 1]:
+            raise ArithmeticError(f"{start} belongs to another mode than {self.kind} m {m} n {n} c {c}")
+        at_zero = self.legendre(Decimal(0))[self.parity]
+        scale = at_zero[self.index] / sum(v * p for v, p in zip(vector, at_zero))
+        self.value, self.d = value, [v * scale for v in vector]
+
+    def legendre(self, x):
+        """Values and derivatives at x of the Legendre functions that the coefficients belong to."""
+        values, slopes = legendre(self.m, x, 2 * len(self.weight) + 1, getcontext().prec)
+        chosen = slice(self.parity, 2 * len(self.weight) + self.parity, 2)
+        return values[chosen], slopes and slopes[chosen]
+
+    def angular(self, x):
+        values, slopes = self.legendre(x)
+        value = sum(d * p for d, p in zip(self.d, values))
+        return value, slopes and sum(d * p for d, p in zip(self.d, slopes))
+
+    def angular_by_powers(self, x, terms=2000):
+        """The same value by the power series of the differential equation, without d."""
+        m, square = self.m, SIGNS[self.kind] * Decimal(self.c) * Decimal(self.c)
+        u = [Decimal(0)] * (terms + 2)
+        u[self.parity] = self.legendre(Decimal(0))[self.parity][self.index]
+        for k in range(self.parity, terms, 2):
+            own = k * (k - 1) + 2 * (m + 1) * k - self.value + m * (m + 1)
+            u[k + 2] = (own * u[k] + (square * u[k - 2] if k > 1 else 0)) / ((k + 1) * (k + 2))
+        total = Decimal(0)
+        for coefficient in reversed(u):
+            total = total * x + coefficient
+        return total * (1 - x * x).sqrt() ** m if m else total
+
+    def factors(self):
+        """d times (2m + r)!/r!, of which the sum normalises the radial functions."""
+        factor, found = Decimal(factorial(2 * self.m + self.parity)), []
+        for i, value in enumerate(self.d):
+            r = 2 * i + self.parity
+            if i > 0:
+                factor = factor * (2 * self.m + r) * (2 * self.m + r - 1) / (r * (r - 1))
+            found.append(value * factor)
+        return found
+
+    def first_on_disc(self):
+        """The first oblate radial function on the disc, or its derivative where n - m is odd; the
+        other of the two is zero. Of the sum over spherical Bessel functions one term is left."""
+        factors, c = self.factors(), Decimal(self.c)
+        odd = prod(range(3, 2 * (self.m + self.parity) + 2, 2))
+        return (-1) ** self.index * factors[0] * c ** (self.m + self.parity) / odd / sum(factors)
+
+    def second_on_disc(self):
+        """The second one and its derivative: its sum over spherical Neumann functions at 12, from
+        where Taylor series of the differential equation go down to the disc."""
+        m, c, x = self.m, Decimal(self.c), Decimal(12)
+        factors = self.factors()
+        y, slopes = neumann(c * x, m + 2 * len(factors) + 1)
+        signs = [(-1) ** (self.index + i) for i in range(len(factors))]
+        at = [m + 2 * i + self.parity for i in range(len(factors))]
+        u = sum(s * f * y[l] for s, f, l in zip(signs, factors, at)) / sum(factors) / x**m
+        du = c * sum(s * f * slopes[l] for s, f, l in zip(signs, factors, at)) / sum(factors) / x**m - m * u / x
+        while x > 0:
+            step = min(x, (1 + x * x).sqrt() / 2, 20 / c)
+            u, du = self.stepped(x, -step, u, du)
+            x -= step
+        return u, du
+
+    def stepped(self, x, step, u, du):
+        """From x to x + step by the Taylor series of (1 + x^2) u'' + 2 (m + 1) x u' + q u = 0, with
+        q = m (m + 1) - cv + c^2 x^2. The radial function is (1 + x^2)^(m/2) u."""
+        m, square = self.m, Decimal(self.c) * Decimal(self.c)
+        q, a = m * (m + 1) - self.value + square * x * x, [u, du]
+        value, slope, power, small, k = u + du * step, du, step, 0, 0
+        limit = (abs(u) + abs(du * step)) * Decimal(10) ** -getcontext().prec
+        while small < 4:
+            total = 2 * x * (k + 1) * (k + m + 1) * a[k + 1] + (k * (k - 1) + 2 * (m + 1) * k + q) * a[k]
+            total += square * ((2 * x * a[k - 1] if k > 0 else 0) + (a[k - 2] if k > 1 else 0))
+            a.append(-total / ((1 + x * x) * (k + 2) * (k + 1)))
+            slope += (k + 2) * a[-1] * power
+            power *= step
+            value += a[-1] * power
+            small = small + 1 if (k + 2) * abs(a[-1] * power) < limit else 0
+            k += 1
+        return value, slope
+
+
+def neumann(z, count):
+    """Spherical Neumann functions of degrees 0, 1, .. at z, and the derivatives."""
+    extra = int(0.9 * float(z)) + 10
+    getcontext().prec += extra
+    sums, term, k = [Decimal(0)] * 4, Decimal(1), 0
+    limit = Decimal(10) ** -getcontext().prec
+    while k < z or term > limit:
+        sums[k % 4] += term
+        k += 1
+        term = term * z / k
+    getcontext().prec -= extra
+    cosine, sine = sums[0] - sums[2], sums[1] - sums[3]
+    values = [-cosine / z, -cosine / z / z - sine / z]
+    for l in range(1, count):
+        values.append((2 * l + 1) / z * values[-1] - values[-2])
+    below = [sine / z, *values]
+    return values, [below[l] - (l + 1) / z * values[l] for l in range(count)]
