@@ -1,8 +1,7 @@
 // The lines of one record.
 ghost use mathlib.Core.Path.{_≡_};
 ghost use Prim.Native.Nat.{_+_, _*_, _<_, _≤_};
-ghost use lib.ListN.{length, replicate};
-ghost use Rattle.arith.specs.Double.{#0};
+ghost use lib.ListN.{length};
 ghost use Rattle.records.specs.Text.{Put};
 ghost use Rattle.segv.specs.Row.{slices};
 ghost use Rattle.stream.specs.Response.{vLines, dLines, rowText, dlmfText, answerText, responseTo};
@@ -16,19 +15,6 @@ use records::Record;
 
 // No record's lines have more bytes: a row has at most 200 lines of 86.
 pub const LONGEST: usize = 17200;
-
-// Two hundred zeros. Made by a call, an array is one value in the caller's proof.
-fn zero_doubles() -> [f64; 200]
-    ensures { λ r. ⌜ r ≡ replicate 200 #0 ⌝ }
-{
-    [0.0; 200]
-}
-
-fn zero_steps() -> [u16; 200]
-    ensures { λ r. ⌜ r ≡ replicate 200 0 ⌝ }
-{
-    [0; 200]
-}
 
 // The `V` lines of a row's first `count` modes.
 fn put_v_lines(
@@ -98,10 +84,10 @@ fn respond_row(
     ensures { λ r. ⌜ Put (now (out .entry)) (now (out .exit)) at r (rowText index kind mode allowance) ⌝ }
     ensures { λ r. ⌜ r ≤ at + longest ⌝ }
 {
-    let mut values = zero_doubles();
-    let mut steps = zero_steps();
-    let mut lowers = zero_doubles();
-    let mut uppers = zero_doubles();
+    let mut values = expansion::sums::blank();
+    let mut steps = modes::zero_steps();
+    let mut lowers = expansion::sums::blank();
+    let mut uppers = expansion::sums::blank();
     let answer = modes::row(
         kind,
         mode,
@@ -139,7 +125,7 @@ fn respond_dlmf_row(
     ensures { λ r. ⌜ Put (now (out .entry)) (now (out .exit)) at r (dlmfText index kind mode allowance) ⌝ }
     ensures { λ r. ⌜ r ≤ at + longest ⌝ }
 {
-    let mut values = zero_doubles();
+    let mut values = expansion::sums::blank();
     let answer = modes::dlmf_row(kind, mode, allowance, &mut values);
     match answer {
         SliceAnswer::Filled => put_d_lines(

@@ -1,21 +1,22 @@
 -- `stream::response::respond_row` meets its contract. Assumes nothing.
 use native.Mathlib.Omega.{arith}
+use Rattle.expansion.specs.Sums as Sums
 use Rattle.stream.proofs.Laws as laws
 use borrow.Author.Needs.{needs}
 use Rattle.stream.proofs.response.respond_row.Statement.{statement}
 use Rattle.stream.proofs.response.respond_row.Tie as tie
 
-zero-doubles-requires : tie.Need-zero-doubles-requires
-zero-doubles-requires c κs = search needs
+blank-requires : tie.Need-blank-requires
+blank-requires c κs = search needs
 
 zero-steps-requires : tie.Need-zero-steps-requires
 zero-steps-requires c κs = search needs
 
-zero-doubles-requires-2 : tie.Need-zero-doubles-requires-2
-zero-doubles-requires-2 c κs = search needs
+blank-requires-2 : tie.Need-blank-requires-2
+blank-requires-2 c κs = search needs
 
-zero-doubles-requires-3 : tie.Need-zero-doubles-requires-3
-zero-doubles-requires-3 c κs = search needs
+blank-requires-3 : tie.Need-blank-requires-3
+blank-requires-3 c κs = search needs
 
 slice-aggregate-row : tie.Need-slice-aggregate-row
 slice-aggregate-row c = search needs
@@ -36,8 +37,9 @@ enum-told : tie.Need-enum-told
 enum-told c = search needs
 
 sub-put-v-lines : tie.Need-sub-put-v-lines
+unfolding Sums.blank
 sub-put-v-lines c =
-    let ok = laws.row-accepted (c .before .before .before .before .before .before .before .before .before .before .before .before .before .before .before .before .before .before .before .before .before .args .index) (c .before .before .before .before .before .before .before .before .before .before .before .before .before .before .before .before .before .before .before .before .before .args .kind) (c .before .before .before .before .before .before .before .before .before .before .before .before .before .before .before .before .before .before .before .before .before .args .mode) (c .before .before .before .before .before .before .before .before .before .before .before .before .before .before .before .before .before .before .before .before .before .args .allowance) _ _ _ _ (c .before .before .before .before .before .before .before .before .before .before .before .before .before .before .before .before .before .before .before .zero-doubles .ensures) (c .before .before .before .before .before .before .before .before .before .before .before .before .before .before .before .before .before .before .zero-steps .ensures) (c .before .before .before .before .before .before .before .before .before .before .before .before .before .before .before .before .before .zero-doubles2 .ensures) (c .before .before .before .before .before .before .before .before .before .before .before .before .before .before .before .before .zero-doubles3 .ensures) _ _ (c .before .before .before .before .before .before .before .before .before .before .before .row .ensures) (c .before .before .before .before .before .enum-told .given .1) in
+    let ok = laws.row-accepted (c .before .before .before .before .before .before .before .before .before .before .before .before .before .before .before .before .before .before .before .before .before .args .index) (c .before .before .before .before .before .before .before .before .before .before .before .before .before .before .before .before .before .before .before .before .before .args .kind) (c .before .before .before .before .before .before .before .before .before .before .before .before .before .before .before .before .before .before .before .before .before .args .mode) (c .before .before .before .before .before .before .before .before .before .before .before .before .before .before .before .before .before .before .before .before .before .args .allowance) _ _ _ _ (c .before .before .before .before .before .before .before .before .before .before .before .before .before .before .before .before .before .before .before .blank .ensures) (c .before .before .before .before .before .before .before .before .before .before .before .before .before .before .before .before .before .before .zero-steps .ensures) (c .before .before .before .before .before .before .before .before .before .before .before .before .before .before .before .before .before .blank2 .ensures) (c .before .before .before .before .before .before .before .before .before .before .before .before .before .before .before .before .blank3 .ensures) _ _ (c .before .before .before .before .before .before .before .before .before .before .before .row .ensures) (c .before .before .before .before .before .enum-told .given .1) in
     omega arith
 
 cast-put-v-lines : tie.Need-cast-put-v-lines
@@ -47,8 +49,9 @@ add-put-v-lines : tie.Need-add-put-v-lines
 add-put-v-lines c = search needs
 
 put-v-lines-requires : tie.Need-put-v-lines-requires
+unfolding Sums.blank
 put-v-lines-requires c κs =
-    let ok = laws.row-accepted (c .before .before .before .before .before .before .before .before .before .before .before .before .before .before .before .before .before .before .before .before .before .before .args .index) (c .before .before .before .before .before .before .before .before .before .before .before .before .before .before .before .before .before .before .before .before .before .before .args .kind) (c .before .before .before .before .before .before .before .before .before .before .before .before .before .before .before .before .before .before .before .before .before .before .args .mode) (c .before .before .before .before .before .before .before .before .before .before .before .before .before .before .before .before .before .before .before .before .before .before .args .allowance) _ _ _ _ (c .before .before .before .before .before .before .before .before .before .before .before .before .before .before .before .before .before .before .before .before .zero-doubles .ensures) (c .before .before .before .before .before .before .before .before .before .before .before .before .before .before .before .before .before .before .before .zero-steps .ensures) (c .before .before .before .before .before .before .before .before .before .before .before .before .before .before .before .before .before .before .zero-doubles2 .ensures) (c .before .before .before .before .before .before .before .before .before .before .before .before .before .before .before .before .before .zero-doubles3 .ensures) _ _ (c .before .before .before .before .before .before .before .before .before .before .before .before .row .ensures) (c .before .before .before .before .before .before .enum-told .given .1) in
+    let ok = laws.row-accepted (c .before .before .before .before .before .before .before .before .before .before .before .before .before .before .before .before .before .before .before .before .before .before .args .index) (c .before .before .before .before .before .before .before .before .before .before .before .before .before .before .before .before .before .before .before .before .before .before .args .kind) (c .before .before .before .before .before .before .before .before .before .before .before .before .before .before .before .before .before .before .before .before .before .before .args .mode) (c .before .before .before .before .before .before .before .before .before .before .before .before .before .before .before .before .before .before .before .before .before .before .args .allowance) _ _ _ _ (c .before .before .before .before .before .before .before .before .before .before .before .before .before .before .before .before .before .before .before .before .blank .ensures) (c .before .before .before .before .before .before .before .before .before .before .before .before .before .before .before .before .before .before .before .zero-steps .ensures) (c .before .before .before .before .before .before .before .before .before .before .before .before .before .before .before .before .before .before .blank2 .ensures) (c .before .before .before .before .before .before .before .before .before .before .before .before .before .before .before .before .before .blank3 .ensures) _ _ (c .before .before .before .before .before .before .before .before .before .before .before .before .row .ensures) (c .before .before .before .before .before .before .enum-told .given .1) in
     omega arith
 
 enum-known-answer : tie.Need-enum-known-answer
@@ -61,27 +64,29 @@ same-length : tie.Need-same-length
 same-length c = search needs
 
 returns : tie.Need-returns
+unfolding Sums.blank
 returns c =
-    let ok = laws.row-accepted (c .before .before .before .before .before .before .before .before .before .before .before .before .before .before .before .before .before .before .before .before .before .before .before .before .before .args .index) (c .before .before .before .before .before .before .before .before .before .before .before .before .before .before .before .before .before .before .before .before .before .before .before .before .before .args .kind) (c .before .before .before .before .before .before .before .before .before .before .before .before .before .before .before .before .before .before .before .before .before .before .before .before .before .args .mode) (c .before .before .before .before .before .before .before .before .before .before .before .before .before .before .before .before .before .before .before .before .before .before .before .before .before .args .allowance) _ _ _ _ (c .before .before .before .before .before .before .before .before .before .before .before .before .before .before .before .before .before .before .before .before .before .before .before .zero-doubles .ensures) (c .before .before .before .before .before .before .before .before .before .before .before .before .before .before .before .before .before .before .before .before .before .before .zero-steps .ensures) (c .before .before .before .before .before .before .before .before .before .before .before .before .before .before .before .before .before .before .before .before .before .zero-doubles2 .ensures) (c .before .before .before .before .before .before .before .before .before .before .before .before .before .before .before .before .before .before .before .before .zero-doubles3 .ensures) _ _ (c .before .before .before .before .before .before .before .before .before .before .before .before .before .before .before .row .ensures) (c .before .before .before .before .before .before .before .before .before .enum-told .given .1) in
+    let ok = laws.row-accepted (c .before .before .before .before .before .before .before .before .before .before .before .before .before .before .before .before .before .before .before .before .before .before .before .before .before .args .index) (c .before .before .before .before .before .before .before .before .before .before .before .before .before .before .before .before .before .before .before .before .before .before .before .before .before .args .kind) (c .before .before .before .before .before .before .before .before .before .before .before .before .before .before .before .before .before .before .before .before .before .before .before .before .before .args .mode) (c .before .before .before .before .before .before .before .before .before .before .before .before .before .before .before .before .before .before .before .before .before .before .before .before .before .args .allowance) _ _ _ _ (c .before .before .before .before .before .before .before .before .before .before .before .before .before .before .before .before .before .before .before .before .before .before .before .blank .ensures) (c .before .before .before .before .before .before .before .before .before .before .before .before .before .before .before .before .before .before .before .before .before .before .zero-steps .ensures) (c .before .before .before .before .before .before .before .before .before .before .before .before .before .before .before .before .before .before .before .before .before .blank2 .ensures) (c .before .before .before .before .before .before .before .before .before .before .before .before .before .before .before .before .before .before .before .before .blank3 .ensures) _ _ (c .before .before .before .before .before .before .before .before .before .before .before .before .before .before .before .row .ensures) (c .before .before .before .before .before .before .before .before .before .enum-told .given .1) in
     let p = c .before .before .put-v-lines .ensures in
-    (laws.put-same (laws.row-filled (c .before .before .before .before .before .before .before .before .before .before .before .before .before .before .before .before .before .before .before .before .before .before .before .before .before .args .index) (c .before .before .before .before .before .before .before .before .before .before .before .before .before .before .before .before .before .before .before .before .before .before .before .before .before .args .kind) (c .before .before .before .before .before .before .before .before .before .before .before .before .before .before .before .before .before .before .before .before .before .before .before .before .before .args .mode) (c .before .before .before .before .before .before .before .before .before .before .before .before .before .before .before .before .before .before .before .before .before .before .before .before .before .args .allowance) _ _ _ _ (c .before .before .before .before .before .before .before .before .before .before .before .before .before .before .before .before .before .before .before .before .before .before .before .zero-doubles .ensures) (c .before .before .before .before .before .before .before .before .before .before .before .before .before .before .before .before .before .before .before .before .before .before .zero-steps .ensures) (c .before .before .before .before .before .before .before .before .before .before .before .before .before .before .before .before .before .before .before .before .before .zero-doubles2 .ensures) (c .before .before .before .before .before .before .before .before .before .before .before .before .before .before .before .before .before .before .before .before .zero-doubles3 .ensures) _ _ (c .before .before .before .before .before .before .before .before .before .before .before .before .before .before .before .row .ensures) (c .before .before .before .before .before .before .before .before .before .enum-told .given .1)) (p .0), omega (arith, p .1))
+    (laws.put-same (laws.row-filled (c .before .before .before .before .before .before .before .before .before .before .before .before .before .before .before .before .before .before .before .before .before .before .before .before .before .args .index) (c .before .before .before .before .before .before .before .before .before .before .before .before .before .before .before .before .before .before .before .before .before .before .before .before .before .args .kind) (c .before .before .before .before .before .before .before .before .before .before .before .before .before .before .before .before .before .before .before .before .before .before .before .before .before .args .mode) (c .before .before .before .before .before .before .before .before .before .before .before .before .before .before .before .before .before .before .before .before .before .before .before .before .before .args .allowance) _ _ _ _ (c .before .before .before .before .before .before .before .before .before .before .before .before .before .before .before .before .before .before .before .before .before .before .before .blank .ensures) (c .before .before .before .before .before .before .before .before .before .before .before .before .before .before .before .before .before .before .before .before .before .before .zero-steps .ensures) (c .before .before .before .before .before .before .before .before .before .before .before .before .before .before .before .before .before .before .before .before .before .blank2 .ensures) (c .before .before .before .before .before .before .before .before .before .before .before .before .before .before .before .before .before .before .before .before .blank3 .ensures) _ _ (c .before .before .before .before .before .before .before .before .before .before .before .before .before .before .before .row .ensures) (c .before .before .before .before .before .before .before .before .before .enum-told .given .1)) (p .0), omega (arith, p .1))
 
 same-length-2 : tie.Need-same-length-2
 same-length-2 c = search needs
 
 returns-2 : tie.Need-returns-2
+unfolding Sums.blank
 returns-2 c =
     let p = c .before .before .r-line .ensures in
-    (laws.put-same (laws.row-refused (c .before .before .before .before .before .before .before .before .before .before .before .before .before .before .before .before .before .before .before .before .before .args .index) (c .before .before .before .before .before .before .before .before .before .before .before .before .before .before .before .before .before .before .before .before .before .args .kind) (c .before .before .before .before .before .before .before .before .before .before .before .before .before .before .before .before .before .before .before .before .before .args .mode) (c .before .before .before .before .before .before .before .before .before .before .before .before .before .before .before .before .before .before .before .before .before .args .allowance) _ _ _ _ (c .before .before .before .before .before .before .before .before .before .before .before .before .before .before .before .before .before .before .before .zero-doubles .ensures) (c .before .before .before .before .before .before .before .before .before .before .before .before .before .before .before .before .before .before .zero-steps .ensures) (c .before .before .before .before .before .before .before .before .before .before .before .before .before .before .before .before .before .zero-doubles2 .ensures) (c .before .before .before .before .before .before .before .before .before .before .before .before .before .before .before .before .zero-doubles3 .ensures) _ _ (c .before .before .before .before .before .before .before .before .before .before .before .row .ensures) _ (c .before .before .before .before .before .answer .given .1)) (p .0), omega (arith, p .1))
+    (laws.put-same (laws.row-refused (c .before .before .before .before .before .before .before .before .before .before .before .before .before .before .before .before .before .before .before .before .before .args .index) (c .before .before .before .before .before .before .before .before .before .before .before .before .before .before .before .before .before .before .before .before .before .args .kind) (c .before .before .before .before .before .before .before .before .before .before .before .before .before .before .before .before .before .before .before .before .before .args .mode) (c .before .before .before .before .before .before .before .before .before .before .before .before .before .before .before .before .before .before .before .before .before .args .allowance) _ _ _ _ (c .before .before .before .before .before .before .before .before .before .before .before .before .before .before .before .before .before .before .before .blank .ensures) (c .before .before .before .before .before .before .before .before .before .before .before .before .before .before .before .before .before .before .zero-steps .ensures) (c .before .before .before .before .before .before .before .before .before .before .before .before .before .before .before .before .before .blank2 .ensures) (c .before .before .before .before .before .before .before .before .before .before .before .before .before .before .before .before .blank3 .ensures) _ _ (c .before .before .before .before .before .before .before .before .before .before .before .row .ensures) _ (c .before .before .before .before .before .answer .given .1)) (p .0), omega (arith, p .1))
 
 pub respond-row-spec : {M : Type 1} → statement M
 respond-row-spec =
     tie.close
     (tie.spec
-    zero-doubles-requires
+    blank-requires
     zero-steps-requires
-    zero-doubles-requires-2
-    zero-doubles-requires-3
+    blank-requires-2
+    blank-requires-3
     slice-aggregate-row
     slice-aggregate-row-2
     slice-aggregate-row-3
