@@ -32,7 +32,7 @@ import spheroidal_checks as checks
 
 TARGET = Path(__file__).resolve().parent.parent / "target"
 PROGRAM = TARGET / "bin" / "spheroidal"
-LIBRARY = TARGET / "spheroidal" / "lib" / "libspheroidal_c.so"
+LIBRARY = TARGET / "spheroidal" / "shared" / "libspheroidal_c.so"
 OPERATIONS = {
     ("row", "prolate"): 1,
     ("row", "oblate"): 2,
@@ -147,7 +147,7 @@ def ask(program, records):
     try:
         done = subprocess.run([program], input=b"".join(records), stdout=subprocess.PIPE, check=True)
     except (OSError, subprocess.CalledProcessError) as error:
-        raise Misunderstood(f"{error}\nThe record program is made by: rt check spheroidal") from None
+        raise Misunderstood(f"{error}\nThe record program is made by: ./build") from None
     answers = [[] for _ in records]
     try:
         for line in done.stdout.decode("ascii").splitlines():

@@ -22,9 +22,11 @@
  * place as it was. An accepted one writes all the places that it needs and none past them: longer
  * buffers are fine, and what they held before has no part in the answer.
  *
- * Where digits end: an answer is what the ported formulas give in doubles. With large n - m, m or c,
- * and with c just above zero, they lose digits, down to none, and an accepted call can answer NaN or
- * infinity. docs/ACCURACY.md says where, and how a caller can check.
+ * Where digits end: an answer is what the ported formulas give in doubles. Characteristic values are
+ * right to 14 digits, near a zero to 14 digits of c * c; the exact value may lie just outside its
+ * bracket. With c from 1e-4 to 10, m up to 12 and n - m up to 15, angular and radial functions have at
+ * least 7 right digits and coefficients 11. Elsewhere there may be none, and NaN and infinity can be
+ * answers. docs/ACCURACY.md says where, and how a caller can check.
  *
  * No argument value is forbidden; each is answered or refused. What C cannot check, the caller keeps:
  *
