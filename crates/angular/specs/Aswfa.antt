@@ -27,7 +27,7 @@ a0Of m x1 = cond (eqb m 0 && eq x1 #0) #1 (cond (eqb (m % 2) 0) (power x1 (m / 2
 
 -- ---- the two sums
 
--- the term r for k, which a sum ends with: k is at least 10, and r is below 1e-14 of the sum su in size
+-- a sum ends with its term r for k where k is at least 10 and r is below 1e-14 of the sum su in size
 unfoldable pub negligible : ℕ → Float → Float → Bool
 negligible k r su = leb 10 k && lt (abs (r ⊘ su)) #1e-14
 

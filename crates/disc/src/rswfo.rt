@@ -5,6 +5,7 @@ ghost use Rattle.expansion.specs.Terms.{Usable};
 ghost use Rattle.disc.specs.Rswfo as Rswfo;
 use super::rmn1::Pair;
 
+// Both kinds at argument zero.
 pub struct Radial {
     pub first: Pair,
     pub second: Pair,

@@ -11,7 +11,7 @@ use lib.Ieee.{Float, nan, inf, fin, lt, eq, ne, div, ofBits}
 use lib.Ieee.Compare.{differs-from-itself}
 use lib.ListN.{length, replicate, set, take, drop, take-append-drop}
 use lib.Seq.{take-all, take-suc, take-suc-set, drop-drop, drop-set-lt}
-use Rattle.arith.specs.Double.{_⊘_, _⊗_, dbl, at, #0, #1, #2, #1e-10}
+use Rattle.arith.specs.Double.{_⊘_, _⊗_, at, #0, #1, #1e-10}
 use Rattle.arith.specs.Choice.{abs}
 use Rattle.arith.specs.Truncation.{wholePart}
 use Rattle.arith.proofs.Flags.{not-left}

@@ -10,7 +10,7 @@ power-requires : tie.Need-power-requires
 power-requires c κs = search needs
 
 returns : tie.Need-returns
-returns c = cc
+returns c = rw (c .before .sqrt .ensures, c .power .ensures)
 
 pub half-power-spec : {M : Type 1} → statement M
 half-power-spec = tie.close (tie.spec sqrt-requires power-requires returns)

@@ -1,5 +1,4 @@
 -- `modes::checking::Mode::entries` meets its contract: H is below 291, and so is its whole part. Assumes nothing.
-use mathlib.Core.Path.{refl}
 use native.Mathlib.Omega.{arith}
 use borrow.Author.Needs.{needs}
 use Rattle.modes.specs.Refusals.{entriesOf}
