@@ -6,10 +6,12 @@
     spheroidal_client.py angular oblate m=0 n=4 c=2.5 x=-1:1:9
     spheroidal_client.py radial oblate m=0 n=2 c=1
 
-m is the order, n the degree, c the size parameter. x is one number or start:stop:count; radial
-functions are asked on the disc, x=0, which may be left out. cv is the characteristic value: where it
-is left out, it is taken from the mode's row. allowance is the most steps for each value of a row,
-65535 if left out. A number is decimal, or 0x and the 16 digits of a double's bits.
+m is the order, n the degree, c the size parameter. dlmf is the row with each value less c * c: for
+oblate modes this is not DLMF's eigenvalue, which is the value plus c * c. x is one number or
+start:stop:count; radial functions are asked on the disc, x=0, which may be left out. cv is the
+characteristic value: where it is left out, it is taken from the mode's row. allowance is the most
+steps for each value of a row, 65535 if left out. A number is decimal, or 0x and the 16 digits of a
+double's bits.
 
 Angular and radial answers are checked (docs/ACCURACY.md): where fewer than 6 digits are left or a
 number is not finite, a warning is printed on the error output. The table stays as it is.

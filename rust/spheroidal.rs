@@ -195,7 +195,8 @@ pub fn row_into(
     })
 }
 
-/// The row's values in DLMF's form: each less c · c.
+/// The row's values in DLMF's form: each less c · c. Prolate ones are DLMF's eigenvalues; oblate ones
+/// are not, for which DLMF has the value plus c · c (docs/FUNCTIONS.md).
 pub fn dlmf_row(kind: Kind, mode: Mode, allowance: u16) -> Result<Vec<f64>, Refusal> {
     let mut values = vec![0.0; places(mode)];
     dlmf_row_into(kind, mode, allowance, &mut values)?;
