@@ -20,7 +20,7 @@ nmOf offset c = 40 + cutOf offset c
 unfoldable pub nm2Of : ℕ → Float → ℕ
 nm2Of offset c = nmOf offset c / 2 - 2
 
--- ---- x1 to the power m/2, with the source's case of m = 0 at x1 = 0
+-- ---- x1 to the power m/2. The source's case of m = 0 at x1 = 0 changes nothing: the power rule gives 1 there too
 
 unfoldable pub a0Of : ℕ → Float → Float
 a0Of m x1 = cond (eqb m 0 && eq x1 #0) #1 (cond (eqb (m % 2) 0) (power x1 (m / 2)) (halfPower x1 (m / 2)))

@@ -1,2 +1,2 @@
--- What only this crate's own contracts speak of. No reader needs it to know what an answer is.
+-- What only contracts inside the library speak of, and proofs. No reader needs it to know what an answer is.
 pub mod Stages

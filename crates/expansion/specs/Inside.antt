@@ -1,3 +1,3 @@
--- What only this crate's own contracts speak of, and proofs above. No reader needs it to know what an answer is.
+-- What only contracts inside the library speak of, and proofs. No reader needs it to know what an answer is.
 pub mod Carried
 pub mod Four
