@@ -112,8 +112,11 @@ pub fn row(
     super::answers::slice_answer(row_number(kind, mode, allowance, values, steps, lowers, uppers))
 }
 
-// The step numbers of the longest row, all zero. Made by a call, an array is one value in the caller's proof.
-pub fn zero_steps() -> [u16; 200]
+// Room for the step numbers of the longest row.
+pub type Steps = [u16; 200];
+
+// All zero. Made by a call, an array is one value in the caller's proof.
+pub fn zero_steps() -> Steps
     ensures { λ r. ⌜ r ≡ replicate 200 0 ⌝ }
 {
     [0; 200]

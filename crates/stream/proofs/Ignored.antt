@@ -14,14 +14,13 @@ use Rattle.segv.specs.Row.{Slices}
 use Rattle.modes.specs.declared.answers.Answer.{Answer}
 use Rattle.modes.specs.declared.answers.Answer.the-variants as Answers
 use Rattle.modes.specs.declared.answers.Answer.the-variants.{Pair, Quadruple}
-use Rattle.modes.specs.declared.checking.Mode.{Mode}
 use Rattle.modes.specs.declared.operations.Operation.{Operation}
 use Rattle.modes.specs.declared.operations.Operation.the-variants.{Row, Angular, Radial, DlmfRow, Refused}
 use Rattle.modes.specs.Operations.{operationOf}
 use Rattle.modes.specs.Rows.{rowOf, dlmfOf, blankSlices}
 use Rattle.modes.specs.Angular.{angularOf}
 use Rattle.modes.specs.Radial.{radialOf}
-use Rattle.stream.specs.Response.{vLines, dLines, rowText, dlmfText, answerText, textOf, responseTo}
+use Rattle.stream.specs.Response.{vLines, dLines, rowText, dlmfText, answerText, modeOf, textOf, responseTo}
 use Rattle.stream.specs.Ignored.{AgreeFor, Alike, Line, numbered, IgnoredFields}
 
 -- ---- the lines of a record without its number
@@ -53,9 +52,6 @@ unfoldable answerNumberless : ℕ → ℕ → Answer → Line
 answerNumberless m n (Pair value derivative) = aNumberless m n value derivative
 answerNumberless m n (Quadruple value1 derivative1 value2 derivative2) = fNumberless m n value1 derivative1 value2 derivative2
 answerNumberless m n (Answers.Refused k) = rNumberless k
-
-abbrev modeOf : Record → Mode
-modeOf r = record { m = r .m; n = r .n; c = r .c }
 
 unfoldable numberless : Operation → Record → List Line
 numberless (Row kind) r =

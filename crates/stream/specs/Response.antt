@@ -47,13 +47,17 @@ answerText index m n (Pair value derivative) = aLine index m n value derivative
 answerText index m n (Quadruple value1 derivative1 value2 derivative2) = fLine index m n value1 derivative1 value2 derivative2
 answerText index m n (Answers.Refused k) = rLine index k
 
+-- the mode that a record asks for
+abbrev pub modeOf : Record → Mode
+modeOf r = record { m = r .m; n = r .n; c = r .c }
+
 -- by the operation
 unfoldable pub textOf : Operation → ℕ → Record → List ℕ
-textOf (Row kind) index r = rowText index kind (record { m = r .m; n = r .n; c = r .c }) (r .allowance)
-textOf (DlmfRow kind) index r = dlmfText index kind (record { m = r .m; n = r .n; c = r .c }) (r .allowance)
+textOf (Row kind) index r = rowText index kind (modeOf r) (r .allowance)
+textOf (DlmfRow kind) index r = dlmfText index kind (modeOf r) (r .allowance)
 textOf (Refused k) index r = rLine index k
-textOf (Angular kind) index r = answerText index (r .m) (r .n) (angularOf kind (record { m = r .m; n = r .n; c = r .c }) (r .cv) (r .x))
-textOf Radial index r = answerText index (r .m) (r .n) (radialOf (record { m = r .m; n = r .n; c = r .c }) (r .cv) (r .x))
+textOf (Angular kind) index r = answerText index (r .m) (r .n) (angularOf kind (modeOf r) (r .cv) (r .x))
+textOf Radial index r = answerText index (r .m) (r .n) (radialOf (modeOf r) (r .cv) (r .x))
 
 -- the lines of the record with this number
 unfoldable pub responseTo : ℕ → Record → List ℕ

@@ -43,8 +43,11 @@ fn entry_e(m: u32, k: u32, cs: f64) -> f64
     arith::sqrt(entry_a(m, k - 2, cs) * entry_g(m, k, cs))
 }
 
-// 300 zeros, the room for a family's entries. Made by a call, an array is one value in the caller's proof.
-pub fn blank() -> [f64; 300]
+// Room for the entries of a family.
+pub type Column = [f64; 300];
+
+// 300 zeros. Made by a call, an array is one value in the caller's proof.
+pub fn blank() -> Column
     ensures { λ r. ⌜ r ≡ blankEntries ⌝ }
 {
     [0.0; 300]
