@@ -24,6 +24,8 @@ OFFSETS = (0, 1, 2, 3, 5, 10, 15, 20, 25, 30, 40, 60)
 # What the tables call small.
 SMALL_OFFSET, SMALL_ORDER = 10, 5
 ARGUMENTS = (0.0, 0.1, 0.3, 0.5, 0.7, 0.9, 0.99)
+# Digits in which two ways of the reference must agree.
+LEAST_AGREEMENT = 40
 ENOUGH = client.LEAST_DIGITS
 LIBRARY = ctypes.CDLL(str(client.LIBRARY))
 
@@ -292,6 +294,8 @@ def print_self_test(modes):
             least[name] = min(least[name], -float(abs(error).log10()) if error else 99)
     print(f"The reference against itself in {len(modes)} modes: ", end="")
     print(", ".join(f"{int(found)} digits by the {name}" for name, found in least.items()) + ".\n")
+    if min(least.values()) < LEAST_AGREEMENT:
+        sys.exit("accuracy: the reference does not agree with itself, so nothing is measured by it")
 
 
 # ---- not a number
