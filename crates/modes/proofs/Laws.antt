@@ -190,9 +190,9 @@ module _ (kind : Kind) (x : Mode) (allowance : ℕ) (l : Slices) where
     short z t = rw (← h, z, t)
 
 pub long-enough : (x : Mode) (l : Slices) → x .n - x .m < length (l .values) → x .n - x .m < length (l .steps) → x .n - x .m < length (l .lowers) → x .n - x .m < length (l .uppers)
-    → tooShort x l ≡ false
+    → x .n - x .m < length (l .substituted) → tooShort x l ≡ false
 unfolding tooShort
-long-enough x l a b c d = rw (lt-leb _ _ a, lt-leb _ _ b, lt-leb _ _ c, lt-leb _ _ d)
+long-enough x l a b c d e = rw (lt-leb _ _ a, lt-leb _ _ b, lt-leb _ _ c, lt-leb _ _ d, lt-leb _ _ e)
 
 -- ---- DLMF's form
 module _ (kind : Kind) (x : Mode) (allowance : ℕ) (xs : List Float) (k : ℕ) (h : k ≡ rowRefusal x) where
@@ -205,11 +205,11 @@ module _ (kind : Kind) (x : Mode) (allowance : ℕ) (xs : List Float) (k : ℕ) 
     unfolding dlmfOf
     dlmf-short l = rw (← h, z, le-leb (length xs) (x .n - x .m) l)
 
-    module _ (l : x .n - x .m < length xs) (v : List Float) (s : List ℕ) (w u : List Float) (hv : v ≡ replicate 200 #0) (hs : s ≡ replicate 200 0)
-        (hw : w ≡ replicate 200 #0) (hu : u ≡ replicate 200 #0) (a : Numbered Slices) (ha : a ≡ rowIn kind x allowance (slices v s w u)) where
+    module _ (l : x .n - x .m < length xs) (v : List Float) (s : List ℕ) (w u : List Float) (f : List ℕ) (hv : v ≡ replicate 200 #0) (hs : s ≡ replicate 200 0)
+        (hw : w ≡ replicate 200 #0) (hu : u ≡ replicate 200 #0) (hf : f ≡ replicate 200 0) (a : Numbered Slices) (ha : a ≡ rowIn kind x allowance (slices v s w u f)) where
       in-blank : a ≡ rowIn kind x allowance blankSlices
       unfolding blankSlices
-      in-blank = ha ∙ rw (hv, hs, hw, hu)
+      in-blank = ha ∙ rw (hv, hs, hw, hu, hf)
 
       pub dlmf-refused : (a .number ≡ 0 → ⊥) → answer (a .number) xs ≡ dlmfOf kind x allowance xs
       unfolding dlmfOf dlmfIn

@@ -1,6 +1,6 @@
 -- The row of characteristic values of a mode. Definitions only.
 use Prim.Native.Nat.{ℕ, zero, suc, _+_, _-_}
-use mathlib.Core.Bool.{Bool, cond, _||_}
+use mathlib.Core.Bool.{Bool, false, cond, _||_}
 use mathlib.Core.List.{List}
 use lib.Dec.{leb, eqb}
 use lib.ListN.{length, set, replicate}
@@ -19,10 +19,11 @@ use Rattle.modes.specs.Refusals.{signOf, entriesOf, rowRefusal}
 unfoldable pub tooShort : Mode → Slices → Bool
 tooShort x l =
     leb (length (l .values)) (x .n - x .m) || leb (length (l .steps)) (x .n - x .m) || leb (length (l .lowers)) (x .n - x .m) || leb (length (l .uppers)) (x .n - x .m)
+    || leb (length (l .substituted)) (x .n - x .m)
 
--- value j is (m + j)(m + j + 1), lower and upper equal it, steps are 0
+-- value j is (m + j)(m + j + 1), lower and upper equal it, steps are 0, and no pivot was replaced
 unfoldable pub zeroAt : ℕ → ℕ → Bracket
-zeroAt m j = let v = dbl (m + j) ⊗ dbl (m + j + 1) in record { value = v; lower = v; upper = v; steps = 0 }
+zeroAt m j = let v = dbl (m + j) ⊗ dbl (m + j + 1) in record { value = v; lower = v; upper = v; steps = 0; substituted = false }
 
 -- where c < 1e-10 the zero-parameter row, and else the bisected one, with cs = c × c × kd and K entries
 unfoldable pub rowIn : Kind → Mode → ℕ → Slices → Numbered Slices
@@ -40,7 +41,7 @@ rowOf kind x allowance l =
 
 -- room for a row of 200 modes
 unfoldable pub blankSlices : Slices
-blankSlices = slices (replicate 200 #0) (replicate 200 0) (replicate 200 #0) (replicate 200 #0)
+blankSlices = slices (replicate 200 #0) (replicate 200 0) (replicate 200 #0) (replicate 200 #0) (replicate 200 0)
 
 -- a list with the first n values, each less x, in its first n places
 unfoldable pub lessened : List Float → Float → ℕ → List Float → List Float

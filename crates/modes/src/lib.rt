@@ -19,4 +19,5 @@ pub use operations::operation_of;
 pub use radial_functions::radial;
 pub use rows::dlmf_row;
 pub use rows::row;
+pub use rows::zero_flags;
 pub use rows::zero_steps;

@@ -18,10 +18,11 @@ fn zero_row(
     steps: &mut [u16],
     lowers: &mut [f64],
     uppers: &mut [f64],
+    substituted: &mut [u8],
 )
-    requires { ⌜ (m < 1000) × (n ≤ 200) × (n ≤ length (now values)) × (n ≤ length (now steps)) × (n ≤ length (now lowers)) × (n ≤ length (now uppers)) ⌝ }
-    ensures { λ _. ⌜ slices (now (values .exit)) (now (steps .exit)) (now (lowers .exit)) (now (uppers .exit))
-        ≡ writtenRow (zeroAt m) n (slices (now (values .entry)) (now (steps .entry)) (now (lowers .entry)) (now (uppers .entry))) ⌝ }
+    requires { ⌜ (m < 1000) × (n ≤ 200) × (n ≤ length (now values)) × (n ≤ length (now steps)) × (n ≤ length (now lowers)) × (n ≤ length (now uppers)) × (n ≤ length (now substituted)) ⌝ }
+    ensures { λ _. ⌜ slices (now (values .exit)) (now (steps .exit)) (now (lowers .exit)) (now (uppers .exit)) (now (substituted .exit))
+        ≡ writtenRow (zeroAt m) n (slices (now (values .entry)) (now (steps .entry)) (now (lowers .entry)) (now (uppers .entry)) (now (substituted .entry))) ⌝ }
 {
     let mut j: usize = 0;
     while j < n {
@@ -31,6 +32,7 @@ fn zero_row(
         steps[j] = 0;
         lowers[j] = v;
         uppers[j] = v;
+        substituted[j] = 0;
         j = j + 1;
     }
 }
@@ -44,22 +46,42 @@ fn row_in(
     steps: &mut [u16],
     lowers: &mut [f64],
     uppers: &mut [f64],
+    substituted: &mut [u8],
 ) -> u8
     requires { ⌜ rowRefusal mode ≡ 0 ⌝ }
-    requires { ⌜ (mode .n - mode .m < length (now values)) × (mode .n - mode .m < length (now steps)) × (mode .n - mode .m < length (now lowers)) × (mode .n - mode .m < length (now uppers)) ⌝ }
-    ensures { λ r. ⌜ answer r (slices (now (values .exit)) (now (steps .exit)) (now (lowers .exit)) (now (uppers .exit)))
-        ≡ rowIn kind mode allowance (slices (now (values .entry)) (now (steps .entry)) (now (lowers .entry)) (now (uppers .entry))) ⌝ }
+    requires { ⌜ (mode .n - mode .m < length (now values)) × (mode .n - mode .m < length (now steps)) × (mode .n - mode .m < length (now lowers)) × (mode .n - mode .m < length (now uppers)) × (mode .n - mode .m < length (now substituted)) ⌝ }
+    ensures { λ r. ⌜ answer r (slices (now (values .exit)) (now (steps .exit)) (now (lowers .exit)) (now (uppers .exit)) (now (substituted .exit)))
+        ≡ rowIn kind mode allowance (slices (now (values .entry)) (now (steps .entry)) (now (lowers .entry)) (now (uppers .entry)) (now (substituted .entry))) ⌝ }
 {
     let c = mode.c;
     let m = mode.m as u32;
     let n = mode.n as u32;
     if c < 1e-10 {
-        zero_row(m, (n - m + 1) as usize, values, steps, lowers, uppers);
+        zero_row(
+            m,
+            (n - m + 1) as usize,
+            values,
+            steps,
+            lowers,
+            uppers,
+            substituted,
+        );
         return 0;
     }
     let cs = c * c * super::checking::sign(kind);
     let entries = mode.entries();
-    segv::segv(m, n, cs, entries, allowance, values, steps, lowers, uppers)
+    segv::segv(
+        m,
+        n,
+        cs,
+        entries,
+        allowance,
+        values,
+        steps,
+        lowers,
+        uppers,
+        substituted,
+    )
 }
 
 // The refusal's number, or 0 with the slices filled.
@@ -71,9 +93,10 @@ fn row_number(
     steps: &mut [u16],
     lowers: &mut [f64],
     uppers: &mut [f64],
+    substituted: &mut [u8],
 ) -> u8
-    ensures { λ r. ⌜ answer r (slices (now (values .exit)) (now (steps .exit)) (now (lowers .exit)) (now (uppers .exit)))
-        ≡ rowOf kind mode allowance (slices (now (values .entry)) (now (steps .entry)) (now (lowers .entry)) (now (uppers .entry))) ⌝ }
+    ensures { λ r. ⌜ answer r (slices (now (values .exit)) (now (steps .exit)) (now (lowers .exit)) (now (uppers .exit)) (now (substituted .exit)))
+        ≡ rowOf kind mode allowance (slices (now (values .entry)) (now (steps .entry)) (now (lowers .entry)) (now (uppers .entry)) (now (substituted .entry))) ⌝ }
 {
     let refused = mode.row_refusal();
     if refused != 0 {
@@ -92,11 +115,24 @@ fn row_number(
     if uppers.len() <= last {
         return 9;
     }
-    row_in(kind, mode, allowance, values, steps, lowers, uppers)
+    if substituted.len() <= last {
+        return 9;
+    }
+    row_in(
+        kind,
+        mode,
+        allowance,
+        values,
+        steps,
+        lowers,
+        uppers,
+        substituted,
+    )
 }
 
-// The characteristic values of the modes from m to n, each with its step number and the bracket
-// that its stopping test used. Refusals 4, 5, 6, 9 and 10.
+// The characteristic values of the modes from m to n, each with its step number, the bracket that its
+// stopping test used, and 1 where 1e-30 was put in for a zero pivot in a count made for it, else 0.
+// Refusals 4, 5, 6, 9 and 10.
 pub fn row(
     kind: Kind,
     mode: Mode,
@@ -105,17 +141,36 @@ pub fn row(
     steps: &mut [u16],
     lowers: &mut [f64],
     uppers: &mut [f64],
+    substituted: &mut [u8],
 ) -> SliceAnswer
-    ensures { λ r. ⌜ record { answer = r; after = slices (now (values .exit)) (now (steps .exit)) (now (lowers .exit)) (now (uppers .exit)) }
-        ≡ outcome (rowOf kind mode allowance (slices (now (values .entry)) (now (steps .entry)) (now (lowers .entry)) (now (uppers .entry)))) ⌝ }
+    ensures { λ r. ⌜ record { answer = r; after = slices (now (values .exit)) (now (steps .exit)) (now (lowers .exit)) (now (uppers .exit)) (now (substituted .exit)) }
+        ≡ outcome (rowOf kind mode allowance (slices (now (values .entry)) (now (steps .entry)) (now (lowers .entry)) (now (uppers .entry)) (now (substituted .entry)))) ⌝ }
 {
-    super::answers::slice_answer(row_number(kind, mode, allowance, values, steps, lowers, uppers))
+    super::answers::slice_answer(row_number(
+        kind,
+        mode,
+        allowance,
+        values,
+        steps,
+        lowers,
+        uppers,
+        substituted,
+    ))
+}
+
+// Room for the flags of the longest row.
+pub type Flags = [u8; 200];
+
+// All zero. Made by a call, an array is one value in the caller's proof.
+pub fn zero_flags() -> Flags
+    ensures { λ r. ⌜ r ≡ replicate 200 0 ⌝ }
+{
+    [0; 200]
 }
 
 // Room for the step numbers of the longest row.
 pub type Steps = [u16; 200];
 
-// All zero. Made by a call, an array is one value in the caller's proof.
 pub fn zero_steps() -> Steps
     ensures { λ r. ⌜ r ≡ replicate 200 0 ⌝ }
 {
@@ -150,6 +205,7 @@ fn dlmf_number(kind: Kind, mode: Mode, allowance: u16, out: &mut [f64]) -> u8
     let mut steps = zero_steps();
     let mut lowers = expansion::sums::blank();
     let mut uppers = expansion::sums::blank();
+    let mut substituted = zero_flags();
     let number = row_in(
         kind,
         mode,
@@ -158,6 +214,7 @@ fn dlmf_number(kind: Kind, mode: Mode, allowance: u16, out: &mut [f64]) -> u8
         &mut steps,
         &mut lowers,
         &mut uppers,
+        &mut substituted,
     );
     if number != 0 {
         return number;

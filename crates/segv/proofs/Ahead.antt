@@ -6,7 +6,9 @@ use native.Mathlib.Omega.{arith}
 use lib.Dec.{ltb}
 use lib.Ieee.{Float}
 use Rattle.arith.specs.Double.{_⊕_, _⊘_, #2}
+use Rattle.sturm.specs.declared.pivots.Count.{Count}
 use Rattle.sturm.specs.declared.pivots.Counts.{Counts}
+use Rattle.sturm.specs.Pivots.{noCount}
 use Rattle.sturm.specs.Inside.SevenShifts.{countsAt}
 use Rattle.segv.specs.declared.bisection.Bracket.{Bracket}
 use Rattle.segv.specs.Bisection.{withMidpoint, tighten}
@@ -16,7 +18,7 @@ abbrev mid : Float → Float → Float
 mid lower upper = (upper ⊕ lower) ⊘ #2
 
 -- for so many steps from the bracket with these ends on, the counts are what np gives at the midpoints
-pub record Known (np : Float → ℕ) (known : ℕ) (lower upper : Float) (k : Counts) : Type 0 where
+pub record Known (np : Float → Count) (known : ℕ) (lower upper : Float) (k : Counts) : Type 0 where
   pub few : known ≤ 3
   pub one : 0 < known → k .x ≡ np (mid lower upper)
   pub two : 1 < known → (k .l ≡ np (mid lower (mid lower upper))) × (k .h ≡ np (mid (mid lower upper) upper))
@@ -24,7 +26,7 @@ pub record Known (np : Float → ℕ) (known : ℕ) (lower upper : Float) (k : C
       → (k .ll ≡ np (mid lower (mid lower (mid lower upper)))) × (k .lh ≡ np (mid (mid lower (mid lower upper)) (mid lower upper)))
       × (k .hl ≡ np (mid (mid lower upper) (mid (mid lower upper) upper))) × (k .hh ≡ np (mid (mid (mid lower upper) upper) upper))
 
-module _ (np : Float → ℕ) where
+module _ (np : Float → Count) where
   pub none-known : (lower upper : Float) (k : Counts) → Known np 0 lower upper k
   none-known lower upper k = record { few = omega arith; one = λ p. absurd (omega arith); two = λ p. absurd (omega arith); three = λ p. absurd (omega arith) }
 
@@ -40,11 +42,11 @@ module _ (np : Float → ℕ) where
     -- a step takes a half, and the counts of that half are known for a step less
     pub known-after : (place : ℕ) (t : Bracket) (k′ : Counts) → t ≡ tighten (k .x) place h → k′ ≡ countsAfter place k → Known np (known - 1) (t .lower) (t .upper) k′
     unfolding tighten withMidpoint
-    known-after place t k′ ht hk = rw (ht, hk, hh) (go (ltb (k .x) place))
+    known-after place t k′ ht hk = rw (ht, hk, hh) (go (ltb (k .x .negative) place))
       where
         go : (b : Bool)
             → Known np (known - 1) (cond b (mid (r .lower) (r .upper)) (r .lower)) (cond b (r .upper) (mid (r .lower) (r .upper)))
-            (record { x = cond b (k .h) (k .l); l = cond b (k .hl) (k .ll); h = cond b (k .hh) (k .lh); ll = 0; lh = 0; hl = 0; hh = 0 })
+            (record { x = cond b (k .h) (k .l); l = cond b (k .hl) (k .ll); h = cond b (k .hh) (k .lh); ll = noCount; lh = noCount; hl = noCount; hh = noCount })
         go true =
             record {
               few = let f = c .few in omega arith;

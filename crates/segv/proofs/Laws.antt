@@ -11,6 +11,7 @@ use Rattle.segv.specs.declared.bisection.Bracket.{Bracket}
 use Rattle.segv.specs.declared.bisection.Search.{Search}
 use Rattle.segv.specs.declared.bisection.Search.the-variants.{Converged, OutOfSteps}
 use Rattle.segv.specs.declared.families.Family.{Family}
+use Rattle.sturm.specs.declared.pivots.Count.{Count}
 use Rattle.sturm.specs.Pivots.{negativePivots}
 use Rattle.sturm.specs.Bounds.{boundsOf}
 use Rattle.sturm.specs.Entries.{diagonal, offDiagonal, squares}
@@ -20,11 +21,11 @@ use Rattle.segv.specs.Inside.Arrays.{ends, families}
 use Rattle.segv.specs.Row.{modeAt, Slices, writtenRow, answer, segvRow}
 
 -- a step that goes on counts one
-pub steps-on : (j number : ℕ) (r h t : Bracket) → h ≡ withMidpoint r → t ≡ tighten j number h → t .steps ≡ r .steps + 1
+pub steps-on : (j : Count) (number : ℕ) (r h t : Bracket) → h ≡ withMidpoint r → t ≡ tighten j number h → t .steps ≡ r .steps + 1
 unfolding withMidpoint tighten
 steps-on j number r h t hh ht = rw (ht, hh)
 
-pub tightened : (places number j : ℕ) (x : Float) (s : Ends) (us ls : List Float) → us ≡ tightenOthers places number j x s .uppers → ls ≡ tightenOthers places number j x s .lowers
+pub tightened : (places number : ℕ) (j : Count) (x : Float) (s : Ends) (us ls : List Float) → us ≡ tightenOthers places number j x s .uppers → ls ≡ tightenOthers places number j x s .lowers
     → ends us ls ≡ tightenOthers places number j x s
 tightened places number j x s us ls hu hl = rw (hu, hl)
 
@@ -38,7 +39,7 @@ module _ (ds fs : List Float) (entries places number : ℕ) where
   unfolding bisection
   met left l r h s b hl hh hb ht = rw (hl, ← hh, ← hb, ht)
 
-  pub on : (left l : ℕ) (r h : Bracket) (s : Ends) (b : Bool) (j : ℕ) (t : Bracket) (after : Ends) → left ≡ suc l → h ≡ withMidpoint r → b ≡ converged h → b ≡ false
+  pub on : (left l : ℕ) (r h : Bracket) (s : Ends) (b : Bool) (j : Count) (t : Bracket) (after : Ends) → left ≡ suc l → h ≡ withMidpoint r → b ≡ converged h → b ≡ false
       → j ≡ negativePivots ds fs entries (h .value) → t ≡ tighten j number h → after ≡ tightenOthers places number j (h .value) s
       → bisection ds fs entries places number left r s ≡ bisection ds fs entries places number l t after
   unfolding bisection

@@ -15,6 +15,7 @@ use lib.Ieee as Ieee
 use lib.Ieee.{Float, nan}
 use Rattle.sturm.specs.declared.gershgorin_bounds.Bounds.{Bounds}
 use Rattle.arith.proofs.Flags.{not-left}
+use Rattle.sturm.specs.declared.pivots.Count.{Count}
 use Rattle.sturm.specs.Pivots.{negativePivots}
 use Rattle.arith.specs.Double.{at}
 use Rattle.arith.specs.Choice.{lesser, greater}
@@ -71,31 +72,33 @@ module _ (ds fs : List Float) (entries : ℕ) (bounds : Bounds) (allowance : ℕ
 
   -- ---- the other places
 
-  tightenCounted-good : (places j : ℕ) (x : Float) (s : Ends) → 0 < places → 0 < j → negativePivots ds fs entries x ≡ j → Good places s → Good places (tightenCounted places j x s)
+  tightenCounted-good : (places : ℕ) (j : Count) (x : Float) (s : Ends) → 0 < places → 0 < j .negative → negativePivots ds fs entries x ≡ j → Good places s → Good places (tightenCounted places j x s)
   unfolding tightenCounted
   tightenCounted-good places j x s hp hj hc g =
-      cases (Good places) (leb places j) _ _
+      let k = j .negative in
+      let hk : negativePivots ds fs entries x .negative ≡ k = ap (λ (c : Count). c .negative) hc in
+      cases (Good places) (leb places k) _ _
       (λ e.
-      let le : places ≤ j = leb-true places j e in
+      let le : places ≤ k = leb-true places k e in
       record {
         lows = g .lows;
         highs = λ q hq. stored (Hi (q + 1)) nan (s .uppers) (places - 1) q x (g .highs q hq) (λ eq. inr (omega arith));
       })
       (λ e.
-      let lt : j < places = leb-false places j e in
+      let lt : k < places = leb-false places k e in
       record {
         lows = λ q hq.
-            stored (Lo (q + 1)) nan (s .lowers) j q (greater (at (s .lowers) j) x) (g .lows q hq)
-            (λ eq. greater-one (Lo (q + 1)) (at (s .lowers) j) x (rw (← eq) (g .lows q hq)) (inr (omega arith)));
+            stored (Lo (q + 1)) nan (s .lowers) k q (greater (at (s .lowers) k) x) (g .lows q hq)
+            (λ eq. greater-one (Lo (q + 1)) (at (s .lowers) k) x (rw (← eq) (g .lows q hq)) (inr (omega arith)));
         highs = λ q hq.
-            stored (Hi (q + 1)) nan (s .uppers) (j - 1) q (lesser (at (s .uppers) (j - 1)) x) (g .highs q hq)
-            (λ eq. lesser-one (Hi (q + 1)) (at (s .uppers) (j - 1)) x (rw (← eq) (g .highs q hq)) (inr (omega arith)));
+            stored (Hi (q + 1)) nan (s .uppers) (k - 1) q (lesser (at (s .uppers) (k - 1)) x) (g .highs q hq)
+            (λ eq. lesser-one (Hi (q + 1)) (at (s .uppers) (k - 1)) x (rw (← eq) (g .highs q hq)) (inr (omega arith)));
       })
 
-  tighten-good : (places number j : ℕ) (x : Float) (s : Ends) → 0 < places → 0 < number → negativePivots ds fs entries x ≡ j → Good places s → Good places (tightenOthers places number j x s)
+  tighten-good : (places number : ℕ) (j : Count) (x : Float) (s : Ends) → 0 < places → 0 < number → negativePivots ds fs entries x ≡ j → Good places s → Good places (tightenOthers places number j x s)
   unfolding tightenOthers
   tighten-good places number j x s hp hn hc g =
-      cases (Good places) (leb number j) _ _ (λ e. tightenCounted-good places j x s hp (let le : number ≤ j = leb-true number j e in omega arith) hc g) (λ e. g)
+      cases (Good places) (leb number (j .negative)) _ _ (λ e. tightenCounted-good places j x s hp (let le : number ≤ j .negative = leb-true number (j .negative) e in omega arith) hc g) (λ e. g)
 
   -- ---- a place's own bracket
 
@@ -127,7 +130,7 @@ module _ (ds fs : List Float) (entries : ℕ) (bounds : Bounds) (allowance : ℕ
   tighten-open number h o =
       record {
         low = cases (Lo number) _ _ _ (λ e. inr (ltb-true _ _ e)) (λ _. o .low);
-        high = cases (Hi number) (ltb (negativePivots ds fs entries (h .value)) number) _ _ (λ _. o .high) (λ e. inr (ltb-false _ _ e));
+        high = cases (Hi number) (ltb (negativePivots ds fs entries (h .value) .negative) number) _ _ (λ _. o .high) (λ e. inr (ltb-false _ _ e));
       }
 
   -- ---- the bisection

@@ -27,7 +27,7 @@ firstBelow us x i (suc n) = let r = firstBelow us x (i + 1) n in cond (lt (at us
 unfoldable pub raised : List Float → ℕ → Float
 raised ls p = cond (eqb p 0) (at ls p) (greater (at ls p) (at ls (p - 1)))
 
--- before the place at p is bisected, its upper falls to the first smaller upper of a later place, and its lower rises to that of the place before
+-- before the place at p is bisected, its upper falls to the first smaller upper of a later place, and its lower rises to that of the place before; no count is its own yet
 unfoldable pub openedAt : Ends → ℕ → ℕ → Bracket
 openedAt s p places =
     record {
@@ -35,6 +35,7 @@ openedAt s p places =
       lower = raised (s .lowers) p;
       upper = firstBelow (s .uppers) (at (s .uppers) p) (p + 1) (places - (p + 1));
       steps = 0;
+      substituted = false;
     }
 
 -- ---- all places of a parity
@@ -45,7 +46,7 @@ onSearch (Converged r) stopped next = next r
 onSearch OutOfSteps stopped next = stopped
 
 unfoldable pub blankBracket : Bracket
-blankBracket = record { value = #0; lower = #0; upper = #0; steps = 0 }
+blankBracket = record { value = #0; lower = #0; upper = #0; steps = 0; substituted = false }
 
 -- of the matrix with the diagonal ds, the squares fs and this many entries; each place has an allowance of so many steps
 module _ (ds fs : List Float) (entries places allowance : ℕ) where

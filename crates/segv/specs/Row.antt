@@ -1,6 +1,6 @@
--- The row of the modes from m to n, in a caller's four slices. Definitions only.
+-- The row of the modes from m to n, in a caller's five slices. Definitions only.
 use Prim.Native.Nat.{ℕ, zero, suc, _/_, _%_}
-use mathlib.Core.Bool.{cond}
+use mathlib.Core.Bool.{Bool, false, cond}
 use mathlib.Core.List.{List}
 use lib.Dec.{eqb}
 use lib.Ieee.{Float, nan}
@@ -10,7 +10,7 @@ use Rattle.segv.specs.Families.{Families, eitherStopped}
 
 -- what a list of brackets has past its end
 abbrev pub noBracket : Bracket
-noBracket = record { value = nan; lower = nan; upper = nan; steps = 0 }
+noBracket = record { value = nan; lower = nan; upper = nan; steps = 0; substituted = false }
 
 -- the mode at offset j has place j/2 + 1, whole division, among those of its parity
 unfoldable pub modeAt : Families → ℕ → Bracket
@@ -23,9 +23,14 @@ pub record Slices : Type 0 where
   pub steps : List ℕ
   pub lowers : List Float
   pub uppers : List Float
+  pub substituted : List ℕ
 
-abbrev pub slices : List Float → List ℕ → List Float → List Float → Slices
-slices v s l u = record { values = v; steps = s; lowers = l; uppers = u }
+abbrev pub slices : List Float → List ℕ → List Float → List Float → List ℕ → Slices
+slices v s l u z = record { values = v; steps = s; lowers = l; uppers = u; substituted = z }
+
+-- 1 for yes and 0 for no
+abbrev pub flag : Bool → ℕ
+flag b = cond b 1 0
 
 -- a list with a field of the brackets 0 to n − 1 in its first n places
 unfoldable pub written : {A : Type 0} → (Bracket → A) → (ℕ → Bracket) → ℕ → List A → List A
@@ -39,6 +44,7 @@ writtenRow bracket n x =
       steps = written (λ b. b .steps) bracket n (x .steps);
       lowers = written (λ b. b .lower) bracket n (x .lowers);
       uppers = written (λ b. b .upper) bracket n (x .uppers);
+      substituted = written (λ b. flag (b .substituted)) bracket n (x .substituted);
     }
 
 -- a refusal's number, or 0 for none, and the caller's places afterwards: one slice, or several, or single doubles

@@ -16,11 +16,11 @@ use Rattle.segv.specs.declared.bisection.Bracket.{Bracket}
 module _ (ds fs : List Float) (entries : ℕ) (bounds : Bounds) where
   -- fewer negative pivots than the place's number, or the lower Gershgorin bound
   abbrev pub Below : ℕ → Float → Type 0
-  Below place x = (x ≡ bounds .lower) ⊎ (negativePivots ds fs entries x < place)
+  Below place x = (x ≡ bounds .lower) ⊎ (negativePivots ds fs entries x .negative < place)
 
   -- that many or more, or the upper Gershgorin bound
   abbrev pub Above : ℕ → Float → Type 0
-  Above place x = (x ≡ bounds .upper) ⊎ (place ≤ negativePivots ds fs entries x)
+  Above place x = (x ≡ bounds .upper) ⊎ (place ≤ negativePivots ds fs entries x .negative)
 
   pub record Sound (allowance place : ℕ) (r : Bracket) : Type 0 where
     -- the value is the rounded midpoint

@@ -13,6 +13,8 @@ pub struct Bracket {
     pub lower: f64,
     pub upper: f64,
     pub steps: u16,
+    // Whether 1e-30 was put in for a zero pivot in a count made for this value.
+    pub substituted: bool,
 }
 
 // What a bisection comes to.
@@ -32,6 +34,7 @@ impl Bracket {
             lower: self.lower,
             upper: self.upper,
             steps: self.steps + 1,
+            substituted: self.substituted,
         }
     }
 
@@ -44,15 +47,17 @@ impl Bracket {
 
     // The value becomes the lower end where the count at it is below the place's number, and else
     // the upper.
-    pub(crate) fn tightened(self, count: usize, place: usize) -> Bracket
+    pub(crate) fn tightened(self, count: sturm::Count, place: usize) -> Bracket
         ensures { λ r. ⌜ r ≡ Bisection.tighten count place self ⌝ }
     {
-        if count < place {
+        let substituted = count.substituted | self.substituted;
+        if count.negative < place {
             return Bracket {
                 value: self.value,
                 lower: self.value,
                 upper: self.upper,
                 steps: self.steps,
+                substituted,
             };
         }
         Bracket {
@@ -60,6 +65,7 @@ impl Bracket {
             lower: self.lower,
             upper: self.value,
             steps: self.steps,
+            substituted,
         }
     }
 }
@@ -69,7 +75,7 @@ impl Bracket {
 fn tighten_others(
     uppers: &mut [f64; 100],
     lowers: &mut [f64; 100],
-    count: usize,
+    count: sturm::Count,
     place: usize,
     places: usize,
     x: f64,
@@ -78,17 +84,18 @@ fn tighten_others(
     ensures { λ _. ⌜ now (uppers .exit) ≡ Bisection.tightenOthers places place count x (ends (now (uppers .entry)) (now (lowers .entry))) .uppers ⌝ }
     ensures { λ _. ⌜ now (lowers .exit) ≡ Bisection.tightenOthers places place count x (ends (now (uppers .entry)) (now (lowers .entry))) .lowers ⌝ }
 {
-    if count < place {
+    let negative = count.negative;
+    if negative < place {
         return;
     }
-    if places <= count {
+    if places <= negative {
         uppers[places - 1] = x;
         return;
     }
-    let raised = arith::greater(lowers[count], x);
-    let at = count - 1;
+    let raised = arith::greater(lowers[negative], x);
+    let at = negative - 1;
     let dropped = arith::lesser(uppers[at], x);
-    lowers[count] = raised;
+    lowers[negative] = raised;
     uppers[at] = dropped;
 }
 
@@ -117,25 +124,33 @@ fn counts_ahead(d: &[f64; 300], f: &[f64; 300], entries: usize, r: Bracket) -> s
 fn counts_after(counts: sturm::Counts, place: usize) -> sturm::Counts
     ensures { λ r. ⌜ r ≡ countsAfter place counts ⌝ }
 {
-    if counts.x < place {
+    let count = counts.x;
+    let none = sturm::no_count();
+    if count.negative < place {
+        let x = counts.h;
+        let l = counts.hl;
+        let h = counts.hh;
         return sturm::Counts {
-            x: counts.h,
-            l: counts.hl,
-            h: counts.hh,
-            ll: 0,
-            lh: 0,
-            hl: 0,
-            hh: 0,
+            x,
+            l,
+            h,
+            ll: none,
+            lh: none,
+            hl: none,
+            hh: none,
         };
     }
+    let x = counts.l;
+    let l = counts.ll;
+    let h = counts.lh;
     sturm::Counts {
-        x: counts.l,
-        l: counts.ll,
-        h: counts.lh,
-        ll: 0,
-        lh: 0,
-        hl: 0,
-        hh: 0,
+        x,
+        l,
+        h,
+        ll: none,
+        lh: none,
+        hl: none,
+        hh: none,
     }
 }
 
@@ -160,15 +175,7 @@ pub(crate) fn bisect(
 {
     let mut r = start;
     let mut left = allowance;
-    let mut counts = sturm::Counts {
-        x: 0,
-        l: 0,
-        h: 0,
-        ll: 0,
-        lh: 0,
-        hl: 0,
-        hh: 0,
-    };
+    let mut counts = sturm::no_counts();
     // for how many steps the counts are known
     let mut known: u32 = 0;
     while 0 < left {

@@ -34,6 +34,7 @@ fn opened(uppers: &[f64; 100], lowers: &[f64; 100], p: usize, places: usize) -> 
             lower: lowers[p],
             upper,
             steps: 0,
+            substituted: false,
         };
     }
     let lower = arith::greater(lowers[p], lowers[p - 1]);
@@ -42,6 +43,7 @@ fn opened(uppers: &[f64; 100], lowers: &[f64; 100], p: usize, places: usize) -> 
         lower,
         upper,
         steps: 0,
+        substituted: false,
     }
 }
 
@@ -66,6 +68,7 @@ fn blank_brackets() -> [Bracket; 100]
         lower: 0.0,
         upper: 0.0,
         steps: 0,
+        substituted: false,
     };
     [blank; 100]
 }

@@ -4,6 +4,7 @@ ghost use Prim.Native.Nat.{_+_, _-_, _<_, _≤_};
 ghost use lib.ListN.{length};
 ghost use Rattle.segv.specs.Families.{bothFamilies};
 ghost use Rattle.segv.specs.Inside.Arrays.{families};
+ghost use Rattle.segv.specs.Row as Row;
 ghost use Rattle.segv.specs.Row.{modeAt, slices, writtenRow, answer, segvRow};
 use super::bisection::Bracket;
 
@@ -19,6 +20,16 @@ fn mode_at(even: [Bracket; 100], odd: [Bracket; 100], j: usize) -> Bracket
     odd[p]
 }
 
+// 1 for yes and 0 for no.
+fn flag(yes: bool) -> u8
+    ensures { λ r. ⌜ r ≡ Row.flag yes ⌝ }
+{
+    if yes {
+        return 1;
+    }
+    0
+}
+
 // The brackets of the first n modes go into the slices.
 fn write_row(
     even: [Bracket; 100],
@@ -28,10 +39,11 @@ fn write_row(
     steps: &mut [u16],
     lowers: &mut [f64],
     uppers: &mut [f64],
+    substituted: &mut [u8],
 )
-    requires { ⌜ (n ≤ 200) × (n ≤ length (now values)) × (n ≤ length (now steps)) × (n ≤ length (now lowers)) × (n ≤ length (now uppers)) ⌝ }
-    ensures { λ _. ⌜ slices (now (values .exit)) (now (steps .exit)) (now (lowers .exit)) (now (uppers .exit))
-        ≡ writtenRow (modeAt (families even odd)) n (slices (now (values .entry)) (now (steps .entry)) (now (lowers .entry)) (now (uppers .entry))) ⌝ }
+    requires { ⌜ (n ≤ 200) × (n ≤ length (now values)) × (n ≤ length (now steps)) × (n ≤ length (now lowers)) × (n ≤ length (now uppers)) × (n ≤ length (now substituted)) ⌝ }
+    ensures { λ _. ⌜ slices (now (values .exit)) (now (steps .exit)) (now (lowers .exit)) (now (uppers .exit)) (now (substituted .exit))
+        ≡ writtenRow (modeAt (families even odd)) n (slices (now (values .entry)) (now (steps .entry)) (now (lowers .entry)) (now (uppers .entry)) (now (substituted .entry))) ⌝ }
 {
     let mut j: usize = 0;
     while j < n {
@@ -40,6 +52,7 @@ fn write_row(
         steps[j] = r.steps;
         lowers[j] = r.lower;
         uppers[j] = r.upper;
+        substituted[j] = flag(r.substituted);
         j = j + 1;
     }
 }
@@ -56,11 +69,12 @@ pub fn segv(
     steps: &mut [u16],
     lowers: &mut [f64],
     uppers: &mut [f64],
+    substituted: &mut [u8],
 ) -> u8
     requires { ⌜ (m < 1000) × (m ≤ n) × (n < m + 200) × (0 < entries) × (entries ≤ 300) ⌝ }
-    requires { ⌜ (n - m < length (now values)) × (n - m < length (now steps)) × (n - m < length (now lowers)) × (n - m < length (now uppers)) ⌝ }
-    ensures { λ r. ⌜ answer r (slices (now (values .exit)) (now (steps .exit)) (now (lowers .exit)) (now (uppers .exit)))
-        ≡ segvRow (bothFamilies m n cs entries allowance) (n - m + 1) (slices (now (values .entry)) (now (steps .entry)) (now (lowers .entry)) (now (uppers .entry))) ⌝ }
+    requires { ⌜ (n - m < length (now values)) × (n - m < length (now steps)) × (n - m < length (now lowers)) × (n - m < length (now uppers)) × (n - m < length (now substituted)) ⌝ }
+    ensures { λ r. ⌜ answer r (slices (now (values .exit)) (now (steps .exit)) (now (lowers .exit)) (now (uppers .exit)) (now (substituted .exit)))
+        ≡ segvRow (bothFamilies m n cs entries allowance) (n - m + 1) (slices (now (values .entry)) (now (steps .entry)) (now (lowers .entry)) (now (uppers .entry)) (now (substituted .entry))) ⌝ }
 {
     let places = ((n - m + 2) / 2) as usize;
     let even = super::families::family_of(m, 0, cs, entries, places, allowance);
@@ -81,6 +95,7 @@ pub fn segv(
         steps,
         lowers,
         uppers,
+        substituted,
     );
     0
 }

@@ -1,35 +1,47 @@
 -- The negative pivots of a symmetric tridiagonal matrix at a shift: ds is the diagonal, fs has the squares of the entries beside it.
 -- In exact arithmetic, where no pivot is zero, there are as many as characteristic values below the shift; nothing of the kind is claimed of the rounded ones. Definitions only.
 use Prim.Native.Nat.{ℕ, zero, suc, _+_}
-use mathlib.Core.Bool.{cond}
+use mathlib.Core.Bool.{false, cond, _||_}
 use mathlib.Core.List.{List}
 use lib.Ieee.{Float, eq, lt}
 use Rattle.arith.specs.Double.{_⊖_, _⊘_, #0, #1, #1e-30, at}
+use Rattle.sturm.specs.declared.pivots.Count.{Count}
 
--- the pivot after some entries, and how many up to it were below zero
+-- the pivot after some entries, and the count up to it: how many pivots were below zero, and was 1e-30 put in
 pub record Pivots : Type 0 where
   pub last : Float
-  pub negative : ℕ
+  pub count : Count
 
--- a zero pivot first becomes 1e-30
-unfoldable pub substituted : Float → Float
-substituted s = cond (eq s #0) #1e-30 s
+-- what is divided by: a zero pivot, of either sign, first becomes 1e-30
+unfoldable pub divisor : Float → Float
+divisor s = cond (eq s #0) #1e-30 s
 
 -- (d − f/s) − shift: at the entry d with f beside it, s being the pivot before it or its substitute
 abbrev pub pivot : Float → Float → Float → Float → Float
 pivot d f s shift = (d ⊖ f ⊘ s) ⊖ shift
 
--- the pivot at one more entry, counted if below zero
+-- a yes where 1e-30 is put in for the pivot s
+abbrev pub noteZero : Float → Count → Count
+noteZero s k = record { negative = k .negative; substituted = eq s #0 || k .substituted }
+
+-- one more where the pivot s is below zero
+abbrev pub countNegative : Float → Count → Count
+countNegative s k = record { negative = cond (lt s #0) (k .negative + 1) (k .negative); substituted = k .substituted }
+
+-- at one more entry: 1e-30 first, then the pivot. So a zero pivot of the last entry, which nothing is divided by, is no yes
 unfoldable pub nextPivot : Float → Float → Float → Pivots → Pivots
 nextPivot d f shift p =
-    let s = pivot d f (substituted (p .last)) shift in
-    record { last = s; negative = cond (lt s #0) (p .negative + 1) (p .negative) }
+    let s = pivot d f (divisor (p .last)) shift in
+    record { last = s; count = countNegative s (noteZero (p .last) (p .count)) }
+
+abbrev pub noCount : Count
+noCount = record { negative = 0; substituted = false }
 
 -- after the first i entries; before the first the pivot is 1
 unfoldable pub pivotsAt : List Float → List Float → Float → ℕ → Pivots
-pivotsAt ds fs shift zero = record { last = #1; negative = 0 }
+pivotsAt ds fs shift zero = record { last = #1; count = noCount }
 pivotsAt ds fs shift (suc i) = nextPivot (at ds i) (at fs i) shift (pivotsAt ds fs shift i)
 
 -- the count over the first `entries` entries
-unfoldable pub negativePivots : List Float → List Float → ℕ → Float → ℕ
-negativePivots ds fs entries shift = pivotsAt ds fs shift entries .negative
+unfoldable pub negativePivots : List Float → List Float → ℕ → Float → Count
+negativePivots ds fs entries shift = pivotsAt ds fs shift entries .count

@@ -5,6 +5,7 @@ use lib.Dec.{ltb}
 use Rattle.arith.specs.Double.{_⊕_, _⊘_, #2}
 use Rattle.sturm.specs.declared.pivots.Seven.{Seven}
 use Rattle.sturm.specs.declared.pivots.Counts.{Counts}
+use Rattle.sturm.specs.Pivots.{noCount}
 use Rattle.segv.specs.declared.bisection.Bracket.{Bracket}
 
 -- r has its midpoint for value; l and h are the midpoints of its lower and upper half, ll to hh those of its quarters
@@ -26,11 +27,11 @@ midpointsAhead r =
 abbrev pub countsAfter : ℕ → Counts → Counts
 countsAfter place k =
     record {
-      x = cond (ltb (k .x) place) (k .h) (k .l);
-      l = cond (ltb (k .x) place) (k .hl) (k .ll);
-      h = cond (ltb (k .x) place) (k .hh) (k .lh);
-      ll = 0;
-      lh = 0;
-      hl = 0;
-      hh = 0;
+      x = cond (ltb (k .x .negative) place) (k .h) (k .l);
+      l = cond (ltb (k .x .negative) place) (k .hl) (k .ll);
+      h = cond (ltb (k .x .negative) place) (k .hh) (k .lh);
+      ll = noCount;
+      lh = noCount;
+      hl = noCount;
+      hh = noCount;
     }

@@ -37,6 +37,9 @@ blank-requires-2 c κs = search needs
 blank-requires-3 : tie.Need-blank-requires-3
 blank-requires-3 c κs = search needs
 
+zero-flags-requires : tie.Need-zero-flags-requires
+zero-flags-requires c κs = search needs
+
 slice-aggregate-row-in : tie.Need-slice-aggregate-row-in
 slice-aggregate-row-in c = search needs
 
@@ -49,28 +52,32 @@ slice-aggregate-row-in-3 c = search needs
 slice-aggregate-row-in-4 : tie.Need-slice-aggregate-row-in-4
 slice-aggregate-row-in-4 c = search needs
 
+slice-aggregate-row-in-5 : tie.Need-slice-aggregate-row-in-5
+slice-aggregate-row-in-5 c = search needs
+
 row-in-requires : tie.Need-row-in-requires
 unfolding Sums.blank
 row-in-requires c κs =
-    let e = sym (c .before .before .before .before .before .before .before .before .before .before .before .row-refusal .ensures) ∙ c .before .before .before .before .before .before .before .before .before .before .if1 .left in
-    let ok = laws.accepted (c .before .before .before .before .before .before .before .before .before .before .before .before .before .args .mode) e in
-    let v = ap length (c .before .before .before .before .before .before .before .blank .ensures) ∙ length-replicate 200 #0 in
-    let s = ap length (c .before .before .before .before .before .before .zero-steps .ensures) ∙ length-replicate {A = ℕ} 200 0 in
-    let w = ap length (c .before .before .before .before .before .blank2 .ensures) ∙ length-replicate 200 #0 in
-    let u = ap length (c .before .before .before .before .blank3 .ensures) ∙ length-replicate 200 #0 in
-    (e, (omega arith, omega arith, omega arith, omega arith))
+    let e = sym (c .before .before .before .before .before .before .before .before .before .before .before .before .before .row-refusal .ensures) ∙ c .before .before .before .before .before .before .before .before .before .before .before .before .if1 .left in
+    let ok = laws.accepted (c .before .before .before .before .before .before .before .before .before .before .before .before .before .before .before .args .mode) e in
+    let v = ap length (c .before .before .before .before .before .before .before .before .before .blank .ensures) ∙ length-replicate 200 #0 in
+    let s = ap length (c .before .before .before .before .before .before .before .before .zero-steps .ensures) ∙ length-replicate {A = ℕ} 200 0 in
+    let w = ap length (c .before .before .before .before .before .before .before .blank2 .ensures) ∙ length-replicate 200 #0 in
+    let u = ap length (c .before .before .before .before .before .before .blank3 .ensures) ∙ length-replicate 200 #0 in
+    let f = ap length (c .before .before .before .before .before .zero-flags .ensures) ∙ length-replicate {A = ℕ} 200 0 in
+    (e, (omega arith, omega arith, omega arith, omega arith, omega arith))
 
 returns-3 : tie.Need-returns-3
 unfolding Sums.blank
-returns-3 c = laws.dlmf-refused _ _ _ _ _ (c .before .before .before .before .before .before .before .before .before .before .before .before .before .before .before .before .before .row-refusal .ensures) (c .before .before .before .before .before .before .before .before .before .before .before .before .before .before .before .before .if1 .left) (c .before .before .before .before .before .before .before .before .before .before .before .before .before .before .if2 .left) _ _ _ _ (c .before .before .before .before .before .before .before .before .before .before .before .before .before .blank .ensures) (c .before .before .before .before .before .before .before .before .before .before .before .before .zero-steps .ensures) (c .before .before .before .before .before .before .before .before .before .before .before .blank2 .ensures) (c .before .before .before .before .before .before .before .before .before .before .blank3 .ensures) _ (c .before .before .before .before .before .row-in .ensures) (c .if3 .taken)
+returns-3 c = laws.dlmf-refused _ _ _ _ _ (c .before .before .before .before .before .before .before .before .before .before .before .before .before .before .before .before .before .before .before .before .row-refusal .ensures) (c .before .before .before .before .before .before .before .before .before .before .before .before .before .before .before .before .before .before .before .if1 .left) (c .before .before .before .before .before .before .before .before .before .before .before .before .before .before .before .before .before .if2 .left) _ _ _ _ _ (c .before .before .before .before .before .before .before .before .before .before .before .before .before .before .before .before .blank .ensures) (c .before .before .before .before .before .before .before .before .before .before .before .before .before .before .before .zero-steps .ensures) (c .before .before .before .before .before .before .before .before .before .before .before .before .before .before .blank2 .ensures) (c .before .before .before .before .before .before .before .before .before .before .before .before .before .blank3 .ensures) (c .before .before .before .before .before .before .before .before .before .before .before .before .zero-flags .ensures) _ (c .before .before .before .before .before .before .row-in .ensures) (c .if3 .taken)
 
 add-lessen : tie.Need-add-lessen
 add-lessen c = search needs
 
 lessen-requires : tie.Need-lessen-requires
 lessen-requires c κs =
-    let ok = laws.accepted (c .before .before .before .before .before .before .before .before .before .before .before .before .before .before .before .before .before .before .before .before .before .before .args .mode) (sym (c .before .before .before .before .before .before .before .before .before .before .before .before .before .before .before .before .before .before .before .before .row-refusal .ensures) ∙ c .before .before .before .before .before .before .before .before .before .before .before .before .before .before .before .before .before .before .before .if1 .left) in
-    let h = c .before .before .before .before .before .before .before .before .before .before .before .before .before .before .before .before .before .if2 .left in
+    let ok = laws.accepted (c .before .before .before .before .before .before .before .before .before .before .before .before .before .before .before .before .before .before .before .before .before .before .before .before .before .args .mode) (sym (c .before .before .before .before .before .before .before .before .before .before .before .before .before .before .before .before .before .before .before .before .before .before .before .row-refusal .ensures) ∙ c .before .before .before .before .before .before .before .before .before .before .before .before .before .before .before .before .before .before .before .before .before .before .if1 .left) in
+    let h = c .before .before .before .before .before .before .before .before .before .before .before .before .before .before .before .before .before .before .before .before .if2 .left in
     omega arith
 
 same-length : tie.Need-same-length
@@ -78,7 +85,7 @@ same-length c = search needs
 
 returns-4 : tie.Need-returns-4
 unfolding Sums.blank
-returns-4 c = laws.dlmf-done _ _ _ _ _ (c .before .before .before .before .before .before .before .before .before .before .before .before .before .before .before .before .before .before .before .before .before .before .before .row-refusal .ensures) (c .before .before .before .before .before .before .before .before .before .before .before .before .before .before .before .before .before .before .before .before .before .before .if1 .left) (c .before .before .before .before .before .before .before .before .before .before .before .before .before .before .before .before .before .before .before .before .if2 .left) _ _ _ _ (c .before .before .before .before .before .before .before .before .before .before .before .before .before .before .before .before .before .before .before .blank .ensures) (c .before .before .before .before .before .before .before .before .before .before .before .before .before .before .before .before .before .before .zero-steps .ensures) (c .before .before .before .before .before .before .before .before .before .before .before .before .before .before .before .before .before .blank2 .ensures) (c .before .before .before .before .before .before .before .before .before .before .before .before .before .before .before .before .blank3 .ensures) _ (c .before .before .before .before .before .before .before .before .before .before .before .row-in .ensures) _ (c .before .before .before .before .before .before .if3 .left) (c .before .before .lessen .ensures)
+returns-4 c = laws.dlmf-done _ _ _ _ _ (c .before .before .before .before .before .before .before .before .before .before .before .before .before .before .before .before .before .before .before .before .before .before .before .before .before .before .row-refusal .ensures) (c .before .before .before .before .before .before .before .before .before .before .before .before .before .before .before .before .before .before .before .before .before .before .before .before .before .if1 .left) (c .before .before .before .before .before .before .before .before .before .before .before .before .before .before .before .before .before .before .before .before .before .before .before .if2 .left) _ _ _ _ _ (c .before .before .before .before .before .before .before .before .before .before .before .before .before .before .before .before .before .before .before .before .before .before .blank .ensures) (c .before .before .before .before .before .before .before .before .before .before .before .before .before .before .before .before .before .before .before .before .before .zero-steps .ensures) (c .before .before .before .before .before .before .before .before .before .before .before .before .before .before .before .before .before .before .before .before .blank2 .ensures) (c .before .before .before .before .before .before .before .before .before .before .before .before .before .before .before .before .before .before .before .blank3 .ensures) (c .before .before .before .before .before .before .before .before .before .before .before .before .before .before .before .before .before .before .zero-flags .ensures) _ (c .before .before .before .before .before .before .before .before .before .before .before .before .row-in .ensures) _ (c .before .before .before .before .before .before .if3 .left) (c .before .before .lessen .ensures)
 
 pub dlmf-number-spec : {M : Type 1} → statement M
 dlmf-number-spec =
@@ -93,10 +100,12 @@ dlmf-number-spec =
     zero-steps-requires
     blank-requires-2
     blank-requires-3
+    zero-flags-requires
     slice-aggregate-row-in
     slice-aggregate-row-in-2
     slice-aggregate-row-in-3
     slice-aggregate-row-in-4
+    slice-aggregate-row-in-5
     row-in-requires
     returns-3
     add-lessen

@@ -23,8 +23,11 @@ same-length-3 c = search needs
 same-length-4 : tie.Need-same-length-4
 same-length-4 c = search needs
 
+same-length-5 : tie.Need-same-length-5
+same-length-5 c = search needs
+
 returns : tie.Need-returns
-returns c = rw (c .slice-answer .ensures) (ap outcome (c .before .before .before .before .before .before .before .before .before .row-number .ensures))
+returns c = rw (c .slice-answer .ensures) (ap outcome (c .before .before .before .before .before .before .before .before .before .before .before .row-number .ensures))
 
 pub row-spec : {M : Type 1} → statement M
 row-spec =
@@ -36,4 +39,5 @@ row-spec =
     same-length-2
     same-length-3
     same-length-4
+    same-length-5
     returns)

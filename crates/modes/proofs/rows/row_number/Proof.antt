@@ -15,7 +15,7 @@ returns : tie.Need-returns
 returns c = laws.early _ _ _ _ _ (c .before .row-refusal .ensures) (c .if1 .taken)
 
 sub-last : tie.Need-sub-last
-sub-last c = let ok = laws.accepted (c .before .before .before .before .before .before .before .args .mode) (sym (c .before .before .row-refusal .ensures) ∙ c .before .if1 .left) in omega arith
+sub-last c = let ok = laws.accepted (c .before .before .before .before .before .before .before .before .args .mode) (sym (c .before .before .row-refusal .ensures) ∙ c .before .if1 .left) in omega arith
 
 cast-last : tie.Need-cast-last
 cast-last c = search needs
@@ -36,8 +36,12 @@ returns-5 : tie.Need-returns-5
 unfolding tooShort
 returns-5 c = laws.short _ _ _ _ _ (c .before .before .before .before .before .before .row-refusal .ensures) (c .before .before .before .before .before .if1 .left) (rw (lt-leb _ _ (c .before .before .before .if2 .left), lt-leb _ _ (c .before .before .if3 .left), lt-leb _ _ (c .before .if4 .left), le-leb _ _ (c .if5 .taken)))
 
+returns-6 : tie.Need-returns-6
+unfolding tooShort
+returns-6 c = laws.short _ _ _ _ _ (c .before .before .before .before .before .before .before .row-refusal .ensures) (c .before .before .before .before .before .before .if1 .left) (rw (lt-leb _ _ (c .before .before .before .before .if2 .left), lt-leb _ _ (c .before .before .before .if3 .left), lt-leb _ _ (c .before .before .if4 .left), lt-leb _ _ (c .before .if5 .left), le-leb _ _ (c .if6 .taken)))
+
 row-in-requires : tie.Need-row-in-requires
-row-in-requires c κs = (sym (c .before .before .before .before .before .before .before .before .before .before .row-refusal .ensures) ∙ c .before .before .before .before .before .before .before .before .before .if1 .left, (c .before .before .before .before .before .before .before .if2 .left, c .before .before .before .before .before .before .if3 .left, c .before .before .before .before .before .if4 .left, c .before .before .before .before .if5 .left))
+row-in-requires c κs = (sym (c .before .before .before .before .before .before .before .before .before .before .before .before .row-refusal .ensures) ∙ c .before .before .before .before .before .before .before .before .before .before .before .if1 .left, (c .before .before .before .before .before .before .before .before .before .if2 .left, c .before .before .before .before .before .before .before .before .if3 .left, c .before .before .before .before .before .before .before .if4 .left, c .before .before .before .before .before .before .if5 .left, c .before .before .before .before .before .if6 .left))
 
 same-length : tie.Need-same-length
 same-length c = search needs
@@ -51,8 +55,11 @@ same-length-3 c = search needs
 same-length-4 : tie.Need-same-length-4
 same-length-4 c = search needs
 
-returns-6 : tie.Need-returns-6
-returns-6 c = laws.late _ _ _ _ _ (c .before .before .before .before .before .before .before .before .before .before .before .before .before .before .before .before .before .before .before .row-refusal .ensures) _ (c .before .before .before .before .before .before .before .before .before .before .before .before .before .before .before .before .before .before .if1 .left) (laws.long-enough _ _ (c .before .before .before .before .before .before .before .before .before .before .before .before .before .before .before .before .if2 .left) (c .before .before .before .before .before .before .before .before .before .before .before .before .before .before .before .if3 .left) (c .before .before .before .before .before .before .before .before .before .before .before .before .before .before .if4 .left) (c .before .before .before .before .before .before .before .before .before .before .before .before .before .if5 .left)) (c .before .before .before .before .before .before .before .before .row-in .ensures)
+same-length-5 : tie.Need-same-length-5
+same-length-5 c = search needs
+
+returns-7 : tie.Need-returns-7
+returns-7 c = laws.late _ _ _ _ _ (c .before .before .before .before .before .before .before .before .before .before .before .before .before .before .before .before .before .before .before .before .before .before .before .row-refusal .ensures) _ (c .before .before .before .before .before .before .before .before .before .before .before .before .before .before .before .before .before .before .before .before .before .before .if1 .left) (laws.long-enough _ _ (c .before .before .before .before .before .before .before .before .before .before .before .before .before .before .before .before .before .before .before .before .if2 .left) (c .before .before .before .before .before .before .before .before .before .before .before .before .before .before .before .before .before .before .before .if3 .left) (c .before .before .before .before .before .before .before .before .before .before .before .before .before .before .before .before .before .before .if4 .left) (c .before .before .before .before .before .before .before .before .before .before .before .before .before .before .before .before .before .if5 .left) (c .before .before .before .before .before .before .before .before .before .before .before .before .before .before .before .before .if6 .left)) (c .before .before .before .before .before .before .before .before .before .before .row-in .ensures)
 
 pub row-number-spec : {M : Type 1} → statement M
 row-number-spec =
@@ -66,9 +73,11 @@ row-number-spec =
     returns-3
     returns-4
     returns-5
+    returns-6
     row-in-requires
     same-length
     same-length-2
     same-length-3
     same-length-4
-    returns-6)
+    same-length-5
+    returns-7)

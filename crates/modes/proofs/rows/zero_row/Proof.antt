@@ -11,16 +11,16 @@ use Rattle.modes.proofs.rows.zero_row.Statement.{statement}
 use Rattle.modes.proofs.rows.zero_row.Tie as tie
 
 abbrev Inv-loop : tie.InvT-loop
-Inv-loop m n values₀ steps₀ lowers₀ uppers₀ j₀ value steps lower upper j =
-    (j ≤ n) × (length value ≡ length values₀) × (length steps ≡ length steps₀) × (length lower ≡ length lowers₀) × (length upper ≡ length uppers₀)
-    × (slices value steps lower upper ≡ writtenRow (zeroAt m) j (slices values₀ steps₀ lowers₀ uppers₀))
+Inv-loop m n values₀ steps₀ lowers₀ uppers₀ substituted₀ j₀ value steps lower upper substituted j =
+    (j ≤ n) × (length value ≡ length values₀) × (length steps ≡ length steps₀) × (length lower ≡ length lowers₀) × (length upper ≡ length uppers₀) × (length substituted ≡ length substituted₀)
+    × (slices value steps lower upper substituted ≡ writtenRow (zeroAt m) j (slices values₀ steps₀ lowers₀ uppers₀ substituted₀))
 
 abbrev μ-loop : tie.MeasureT-loop
-μ-loop m n values₀ steps₀ lowers₀ uppers₀ j₀ value steps lower upper j = n - j
+μ-loop m n values₀ steps₀ lowers₀ uppers₀ substituted₀ j₀ value steps lower upper substituted j = n - j
 
 loop-holds : tie.Need-loop-holds Inv-loop μ-loop
 unfolding written writtenRow
-loop-holds c = (omega arith, refl, refl, refl, refl, refl)
+loop-holds c = (omega arith, refl, refl, refl, refl, refl, refl)
 
 cast-k : tie.Need-cast-k Inv-loop μ-loop
 cast-k c = search needs
@@ -61,6 +61,9 @@ mul-uppers c = search needs
 slice-write-uppers : tie.Need-slice-write-uppers Inv-loop μ-loop
 slice-write-uppers c = search needs
 
+slice-write-substituted : tie.Need-slice-write-substituted Inv-loop μ-loop
+slice-write-substituted c = search needs
+
 add-j : tie.Need-add-j Inv-loop μ-loop
 add-j c = search needs
 
@@ -76,7 +79,8 @@ loop-again c =
       simp length-set (l .inv .2),
       simp length-set (l .inv .3),
       simp length-set (l .inv .4),
-      rw (add-one (l .j), ap (λ x. x .values) (l .inv .5), ap (λ x. x .steps) (l .inv .5), ap (λ x. x .lowers) (l .inv .5), ap (λ x. x .uppers) (l .inv .5)),
+      simp length-set (l .inv .5),
+      rw (add-one (l .j), ap (λ x. x .values) (l .inv .6), ap (λ x. x .steps) (l .inv .6), ap (λ x. x .lowers) (l .inv .6), ap (λ x. x .uppers) (l .inv .6), ap (λ x. x .substituted) (l .inv .6)),
     )
 
 same-length : tie.Need-same-length Inv-loop μ-loop
@@ -91,11 +95,14 @@ same-length-3 c = search needs
 same-length-4 : tie.Need-same-length-4 Inv-loop μ-loop
 same-length-4 c = search needs
 
+same-length-5 : tie.Need-same-length-5 Inv-loop μ-loop
+same-length-5 c = search needs
+
 returns : tie.Need-returns Inv-loop μ-loop
 returns c =
     let l = c .before .loop in
     let h : l .j ≡ c .before .before .args .n = omega arith in
-    rw h at (l .inv .5)
+    rw h at (l .inv .6)
 
 pub zero-row-spec : {M : Type 1} → statement M
 zero-row-spec =
@@ -117,6 +124,7 @@ zero-row-spec =
     slice-write-lowers
     mul-uppers
     slice-write-uppers
+    slice-write-substituted
     add-j
     loop-less
     loop-again
@@ -124,4 +132,5 @@ zero-row-spec =
     same-length-2
     same-length-3
     same-length-4
+    same-length-5
     returns)

@@ -21,6 +21,9 @@ Inv-loop d f entries places place allowance uppers₀ lowers₀ r₀ left₀ cou
 abbrev μ-loop : tie.MeasureT-loop
 μ-loop d f entries places place allowance uppers₀ lowers₀ r₀ left₀ counts₀ known₀ uppers lowers r left counts known = left
 
+no-counts-requires : tie.Need-no-counts-requires Inv-loop μ-loop
+no-counts-requires c κs = search needs
+
 loop-holds : tie.Need-loop-holds Inv-loop μ-loop
 loop-holds c = (omega arith, refl, none-known _ _ _ _)
 
@@ -45,7 +48,7 @@ counts-ahead-requires c κs = search needs
 
 -- after the test of `known` the count of this step is known
 recounted : (c : tie.Joined2 Inv-loop μ-loop)
-    → let l = c .before .before .before .before .before .loop in let a = c .before .before .before .before .before .before .args in
+    → let l = c .before .before .before .before .before .loop in let a = c .before .before .before .before .before .before .before .args in
     (0 < c .if2 .known) × Known (negativePivots (a .d .now) (a .f .now) (a .entries)) (c .if2 .known) (l .r .lower) (l .r .upper) (c .if2 .counts)
 recounted c =
     let l = c .before .before .before .before .before .loop in
@@ -63,14 +66,14 @@ counts-after-requires : tie.Need-counts-after-requires Inv-loop μ-loop
 counts-after-requires c κs = search needs
 
 sub-known : tie.Need-sub-known Inv-loop μ-loop
-sub-known c = let p = recounted (c .before .before .before .before .before .before) .0 in omega (arith, p)
+sub-known c = let p = recounted (c .before .before .before .before .before .before .before) .0 in omega (arith, p)
 
 loop-less : tie.Need-loop-less Inv-loop μ-loop
 loop-less c = search needs
 
 loop-again : tie.Need-loop-again Inv-loop μ-loop
 loop-again c =
-    let j = c .before .before .before .before .before .before in
+    let j = c .before .before .before .before .before .before .before in
     let l = j .before .before .before .before .before .loop in
     let h = j .before .before .before .with-midpoint in
     let t = c .before .before .before .before .before .tightened in
@@ -93,6 +96,7 @@ bisect-spec =
     (tie.spec
     Inv-loop
     μ-loop
+    no-counts-requires
     loop-holds
     sub-left
     with-midpoint-requires

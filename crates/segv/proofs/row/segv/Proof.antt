@@ -49,10 +49,13 @@ same-length-3 c = search needs
 same-length-4 : tie.Need-same-length-4
 same-length-4 c = search needs
 
+same-length-5 : tie.Need-same-length-5
+same-length-5 c = search needs
+
 returns-3 : tie.Need-returns-3
 returns-3 c =
-    let after = c .before .before .before .before .before .before .before .before in
-    let two = after .before .before .before .before .before .before .before in
+    let after = c .before .before .before .before .before .before .before .before .before .before in
+    let two = after .before .before .before .before .before .before .before .before in
     laws.both _ _ _ _ _ _ _ _ _ _ (two .before .before .before .family-of .ensures) (two .before .family-of2 .ensures) (two .before .before .if1 .left) (two .if2 .left) (after .write-row .ensures)
 
 pub segv-spec : {M : Type 1} → statement M
@@ -74,4 +77,5 @@ segv-spec =
     same-length-2
     same-length-3
     same-length-4
+    same-length-5
     returns-3)

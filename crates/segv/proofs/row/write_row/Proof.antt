@@ -11,16 +11,16 @@ use Rattle.segv.proofs.row.write_row.Statement.{statement}
 use Rattle.segv.proofs.row.write_row.Tie as tie
 
 abbrev Inv-loop : tie.InvT-loop
-Inv-loop even odd n values₀ steps₀ lowers₀ uppers₀ j₀ value steps lower upper j =
-    (j ≤ n) × (length value ≡ length values₀) × (length steps ≡ length steps₀) × (length lower ≡ length lowers₀) × (length upper ≡ length uppers₀)
-    × (slices value steps lower upper ≡ writtenRow (modeAt (families even odd)) j (slices values₀ steps₀ lowers₀ uppers₀))
+Inv-loop even odd n values₀ steps₀ lowers₀ uppers₀ substituted₀ j₀ value steps lower upper substituted j =
+    (j ≤ n) × (length value ≡ length values₀) × (length steps ≡ length steps₀) × (length lower ≡ length lowers₀) × (length upper ≡ length uppers₀) × (length substituted ≡ length substituted₀)
+    × (slices value steps lower upper substituted ≡ writtenRow (modeAt (families even odd)) j (slices values₀ steps₀ lowers₀ uppers₀ substituted₀))
 
 abbrev μ-loop : tie.MeasureT-loop
-μ-loop even odd n values₀ steps₀ lowers₀ uppers₀ j₀ value steps lower upper j = n - j
+μ-loop even odd n values₀ steps₀ lowers₀ uppers₀ substituted₀ j₀ value steps lower upper substituted j = n - j
 
 loop-holds : tie.Need-loop-holds Inv-loop μ-loop
 unfolding written writtenRow
-loop-holds c = (omega arith, refl, refl, refl, refl, refl)
+loop-holds c = (omega arith, refl, refl, refl, refl, refl, refl)
 
 mode-at-requires : tie.Need-mode-at-requires Inv-loop μ-loop
 mode-at-requires c κs = search needs
@@ -49,6 +49,12 @@ mul-uppers c = search needs
 slice-write-uppers : tie.Need-slice-write-uppers Inv-loop μ-loop
 slice-write-uppers c = search needs
 
+flag-requires : tie.Need-flag-requires Inv-loop μ-loop
+flag-requires c κs = search needs
+
+slice-write-substituted : tie.Need-slice-write-substituted Inv-loop μ-loop
+slice-write-substituted c = search needs
+
 add-j : tie.Need-add-j Inv-loop μ-loop
 add-j c = search needs
 
@@ -58,9 +64,9 @@ loop-less c = search needs
 loop-again : tie.Need-loop-again Inv-loop μ-loop
 unfolding written writtenRow
 loop-again c =
-    let l = c .before .before .loop in
-    let e = c .mode-at .ensures in
-    (omega arith, simp length-set (l .inv .1), simp length-set (l .inv .2), simp length-set (l .inv .3), simp length-set (l .inv .4), rw (add-one, ap (λ x. x .values) (l .inv .5), ap (λ x. x .steps) (l .inv .5), ap (λ x. x .lowers) (l .inv .5), ap (λ x. x .uppers) (l .inv .5), e))
+    let l = c .before .before .before .loop in
+    let e = c .before .mode-at .ensures in
+    (omega arith, simp length-set (l .inv .1), simp length-set (l .inv .2), simp length-set (l .inv .3), simp length-set (l .inv .4), simp length-set (l .inv .5), rw (add-one, ap (λ x. x .values) (l .inv .6), ap (λ x. x .steps) (l .inv .6), ap (λ x. x .lowers) (l .inv .6), ap (λ x. x .uppers) (l .inv .6), ap (λ x. x .substituted) (l .inv .6), c .flag .ensures, e))
 
 same-length : tie.Need-same-length Inv-loop μ-loop
 same-length c = search needs
@@ -74,11 +80,14 @@ same-length-3 c = search needs
 same-length-4 : tie.Need-same-length-4 Inv-loop μ-loop
 same-length-4 c = search needs
 
+same-length-5 : tie.Need-same-length-5 Inv-loop μ-loop
+same-length-5 c = search needs
+
 returns : tie.Need-returns Inv-loop μ-loop
 returns c =
     let l = c .before .loop in
-    let h : l .j ≡ c .before .before .before .before .before .before .args .n = omega arith in
-    rw h at (l .inv .5)
+    let h : l .j ≡ c .before .before .before .before .before .before .before .args .n = omega arith in
+    rw h at (l .inv .6)
 
 pub write-row-spec : {M : Type 1} → statement M
 write-row-spec =
@@ -96,6 +105,8 @@ write-row-spec =
     slice-write-lowers
     mul-uppers
     slice-write-uppers
+    flag-requires
+    slice-write-substituted
     add-j
     loop-less
     loop-again
@@ -103,4 +114,5 @@ write-row-spec =
     same-length-2
     same-length-3
     same-length-4
+    same-length-5
     returns)

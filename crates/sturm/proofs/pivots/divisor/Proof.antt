@@ -1,14 +1,14 @@
 -- `sturm::pivots::divisor` meets its contract. Assumes nothing.
-use Rattle.sturm.specs.Pivots.{substituted}
+use Rattle.sturm.specs.Pivots.{divisor}
 use Rattle.sturm.proofs.pivots.divisor.Statement.{statement}
 use Rattle.sturm.proofs.pivots.divisor.Tie as tie
 
 returns : tie.Need-returns
-unfolding substituted
+unfolding divisor
 returns c = rw (c .if1 .taken)
 
 returns-2 : tie.Need-returns-2
-unfolding substituted
+unfolding divisor
 returns-2 c = rw (c .if1 .left)
 
 pub divisor-spec : {M : Type 1} → statement M

@@ -1,26 +1,26 @@
 -- `sturm::pivots::negative_pivots` meets its contract. The invariant: each of the seven chains is the definition's after i entries. Assumes nothing.
-use mathlib.Core.Path.{_≡_, refl}
+use mathlib.Core.Path.{_≡_}
 use Prim.Native.Nat.{_≤_, _-_}
 use native.Mathlib.Omega.{arith}
-use Rattle.sturm.specs.Pivots.{pivotsAt}
-use Rattle.sturm.proofs.pivots.Chain.{Chains, chain-starts, chains-few, chains-on, chains-end}
+use Rattle.sturm.proofs.pivots.Chain.{AllChains, chains-start, chains-few, chains-on, chains-end}
 use borrow.Author.Needs.{needs}
 use Rattle.sturm.proofs.pivots.negative_pivots.Statement.{statement}
 use Rattle.sturm.proofs.pivots.negative_pivots.Tie as tie
 
 abbrev Inv-loop : tie.InvT-loop
-Inv-loop d f entries shifts s₀ counts₀ i₀ s counts i = (i ≤ entries) × Chains d f shifts i s counts
+Inv-loop d f entries shifts chains₀ i₀ chains i = (i ≤ entries) × AllChains d f shifts i chains
 
 abbrev μ-loop : tie.MeasureT-loop
-μ-loop d f entries shifts s₀ counts₀ i₀ s counts i = entries - i
+μ-loop d f entries shifts chains₀ i₀ chains i = entries - i
+
+first-chains-requires : tie.Need-first-chains-requires Inv-loop μ-loop
+first-chains-requires c κs = search needs
 
 loop-holds : tie.Need-loop-holds Inv-loop μ-loop
-unfolding pivotsAt
-loop-holds c =
-    (omega arith, record { x = chain-starts _ _ _ _ refl; l = chain-starts _ _ _ _ refl; h = chain-starts _ _ _ _ refl; ll = chain-starts _ _ _ _ refl; lh = chain-starts _ _ _ _ refl; hl = chain-starts _ _ _ _ refl; hh = chain-starts _ _ _ _ refl })
+loop-holds c = (omega arith, chains-start _ _ _ _ (c .first-chains .ensures))
 
-divisors-requires : tie.Need-divisors-requires Inv-loop μ-loop
-divisors-requires c κs = search needs
+substituted-requires : tie.Need-substituted-requires Inv-loop μ-loop
+substituted-requires c κs = search needs
 
 mul-next : tie.Need-mul-next Inv-loop μ-loop
 mul-next c = search needs
@@ -35,10 +35,7 @@ element-copy-out-next-2 : tie.Need-element-copy-out-next-2 Inv-loop μ-loop
 element-copy-out-next-2 c = search needs
 
 next-requires : tie.Need-next-requires Inv-loop μ-loop
-next-requires c κs = search needs
-
-counted-requires : tie.Need-counted-requires Inv-loop μ-loop
-counted-requires c κs = let l = c .before .before .before .before .before .loop in chains-few _ _ _ _ _ _ (l .inv .1) (omega arith)
+next-requires c κs = let l = c .before .before .before .before .loop in chains-few _ _ _ _ _ (l .inv .1) _ (c .before .before .substituted .ensures) (omega arith)
 
 add-i : tie.Need-add-i Inv-loop μ-loop
 add-i c = search needs
@@ -48,14 +45,14 @@ loop-less c = search needs
 
 loop-again : tie.Need-loop-again Inv-loop μ-loop
 loop-again c =
-    let l = c .before .before .before .before .before .before .loop in
-    (omega arith, chains-on _ _ _ _ _ _ (l .inv .1) _ _ _ (c .before .before .before .before .divisors .ensures) (c .before .next .ensures) (c .counted .ensures))
+    let l = c .before .before .before .before .before .loop in
+    (omega arith, chains-on _ _ _ _ _ (l .inv .1) _ _ (c .before .before .before .substituted .ensures) (c .next .ensures))
 
 returns : tie.Need-returns Inv-loop μ-loop
 returns c =
-    let l = c .before .loop in
-    let h : l .i ≡ c .before .before .args .entries = omega arith in
-    chains-end _ _ _ _ _ _ (l .inv .1) _ h
+    let l = c .before .before .loop in
+    let h : l .i ≡ c .before .before .before .before .args .entries = omega arith in
+    chains-end _ _ _ _ _ (l .inv .1) _ h
 
 pub negative-pivots-spec : {M : Type 1} → statement M
 negative-pivots-spec =
@@ -63,14 +60,14 @@ negative-pivots-spec =
     (tie.spec
     Inv-loop
     μ-loop
+    first-chains-requires
     loop-holds
-    divisors-requires
+    substituted-requires
     mul-next
     element-copy-out-next
     mul-next-2
     element-copy-out-next-2
     next-requires
-    counted-requires
     add-i
     loop-less
     loop-again

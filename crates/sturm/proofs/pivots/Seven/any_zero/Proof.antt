@@ -1,6 +1,5 @@
 -- `sturm::pivots::Seven::any_zero` meets its contract. Assumes nothing.
 use Rattle.arith.proofs.Flags.{not-left}
-use Rattle.sturm.specs.Pivots.{substituted}
 use Rattle.sturm.proofs.pivots.Seven.any_zero.Statement.{statement}
 use Rattle.sturm.proofs.pivots.Seven.any_zero.Tie as tie
 
@@ -23,8 +22,7 @@ returns-6 : tie.Need-returns-6
 returns-6 c e = not-left e
 
 returns-7 : tie.Need-returns-7
-unfolding substituted
-returns-7 c e = rw (c .before .before .before .before .before .before .before .before .before .before .before .if1 .left, c .before .before .before .before .before .before .before .before .before .if2 .left, c .before .before .before .before .before .before .before .if3 .left, c .before .before .before .before .before .if4 .left, c .before .before .before .if5 .left, c .before .if6 .left, e)
+returns-7 c e = record { x = c .before .before .before .before .before .before .before .before .before .before .before .if1 .left; l = c .before .before .before .before .before .before .before .before .before .if2 .left; h = c .before .before .before .before .before .before .before .if3 .left; ll = c .before .before .before .before .before .if4 .left; lh = c .before .before .before .if5 .left; hl = c .before .if6 .left; hh = e }
 
 pub any-zero-spec : {M : Type 1} → statement M
 any-zero-spec =

@@ -3,9 +3,6 @@ use borrow.Author.Needs.{needs}
 use Rattle.sturm.proofs.pivots.Seven.divisors.Statement.{statement}
 use Rattle.sturm.proofs.pivots.Seven.divisors.Tie as tie
 
-any-zero-requires : tie.Need-any-zero-requires
-any-zero-requires c κs = search needs
-
 divisor-requires : tie.Need-divisor-requires
 divisor-requires c κs = search needs
 
@@ -30,14 +27,10 @@ divisor-requires-7 c κs = search needs
 returns : tie.Need-returns
 returns c = rw (c .before .before .before .before .before .before .divisor .ensures, c .before .before .before .before .before .divisor2 .ensures, c .before .before .before .before .divisor3 .ensures, c .before .before .before .divisor4 .ensures, c .before .before .divisor5 .ensures, c .before .divisor6 .ensures, c .divisor7 .ensures)
 
-returns-2 : tie.Need-returns-2
-returns-2 c = c .before .any-zero .ensures (c .if1 .left)
-
 pub divisors-spec : {M : Type 1} → statement M
 divisors-spec =
     tie.close
     (tie.spec
-    any-zero-requires
     divisor-requires
     divisor-requires-2
     divisor-requires-3
@@ -45,5 +38,4 @@ divisors-spec =
     divisor-requires-5
     divisor-requires-6
     divisor-requires-7
-    returns
-    returns-2)
+    returns)
