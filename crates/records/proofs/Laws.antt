@@ -13,7 +13,7 @@ use lib.Seq.{length-take-le, take-at, drop-at, drop-drop, take-set-le, drop-set-
 use Rattle.records.specs.Record.{numberAt}
 use lib.Ieee.{Float}
 use Rattle.records.specs.Text.{Put, digit, decimalIn, decimal, hexadecimal}
-use Rattle.records.specs.Lines.{vLine, dLine, aLine, fLine, rLine}
+use Rattle.records.specs.Lines.{vLine, zLine, dLine, aLine, fLine, rLine}
 
 -- ---- little-endian numbers in two halves
 pub numberAt-4 : (input : List ℕ) (at : ℕ) → numberAt input at 4 ≡ numberAt input at 2 + 0x1_0000 * numberAt input (at + 2) 2
@@ -118,6 +118,10 @@ decimal-length k n h = decimalIn-length 20 k n h
 pub vLine-length : (index mode steps : ℕ) (value lower upper : Float) → index < 2 ^ 64 → mode < 2 ^ 16 → steps < 2 ^ 16 → length (vLine index mode steps value lower upper) ≤ 86
 vLine-length index mode steps value lower upper i m s =
     simp (length-append, hexadecimal-length) (omega (arith, decimal-length 19 index (omega arith), decimal-length 4 mode (omega arith), decimal-length 4 steps (omega arith)))
+
+pub zLine-length : (index mode substituted : ℕ) → index < 2 ^ 64 → mode < 2 ^ 16 → substituted < 2 ^ 8 → length (zLine index mode substituted) ≤ 33
+zLine-length index mode substituted i m s =
+    simp length-append (omega (arith, decimal-length 19 index (omega arith), decimal-length 4 mode (omega arith), decimal-length 2 substituted (omega arith)))
 
 pub dLine-length : (index mode : ℕ) (value : Float) → index < 2 ^ 64 → mode < 2 ^ 16 → length (dLine index mode value) ≤ 46
 dLine-length index mode value i m = simp (length-append, hexadecimal-length) (omega (arith, decimal-length 19 index (omega arith), decimal-length 4 mode (omega arith)))

@@ -10,7 +10,7 @@ use Rattle.records.specs.declared.record.Next.{Next}
 use Rattle.records.specs.declared.record.Next.the-variants.{Whole, Refused, End}
 use Rattle.records.specs.Record.{numberAt, nextAt}
 use Rattle.records.specs.Text.{ascii, digit, decimalIn, hexadecimal}
-use Rattle.records.specs.Lines.{vLine, dLine, rLine}
+use Rattle.records.specs.Lines.{vLine, zLine, dLine, rLine}
 
 -- ---- records
 
@@ -62,6 +62,8 @@ lines =
     (vLine 0 2 0 six six six, "V 0 2 0 4018000000000000 4018000000000000 4018000000000000\n") ∷
     -- each word another
     (vLine 10 199 65535 #2 #1 six, "V 10 199 65535 4000000000000000 3ff0000000000000 4018000000000000\n") ∷
+    (zLine 0 1 0, "Z 0 1 0\n") ∷
+    (zLine 10 199 1, "Z 10 199 1\n") ∷
     -- the root of 2, and a NaN
     (dLine 7 3 (bits 0x3ff6_a09e_667f_3bcd), "D 7 3 3ff6a09e667f3bcd\n") ∷
     (dLine 7 4 nan, "D 7 4 7ff8000000000000\n") ∷

@@ -25,6 +25,10 @@ bracket value lower upper = double value ++ double lower ++ double upper ++ newl
 abbrev pub vLine : ℕ → ℕ → ℕ → Float → Float → Float → List ℕ
 vLine index mode steps value lower upper = ascii "V" ++ number index ++ number mode ++ number steps ++ bracket value lower upper
 
+-- `Z`, after each `V`: was 1e-30 put in for a zero pivot, 1 for yes and 0 for no
+abbrev pub zLine : ℕ → ℕ → ℕ → List ℕ
+zLine index mode substituted = ascii "Z" ++ number index ++ number mode ++ number substituted ++ newline
+
 -- `D`: a mode of a row in DLMF's form
 abbrev pub dLine : ℕ → ℕ → Float → List ℕ
 dLine index mode value = ascii "D" ++ number index ++ number mode ++ double value ++ newline

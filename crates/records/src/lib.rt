@@ -9,6 +9,7 @@ pub use line::d_line;
 pub use line::f_line;
 pub use line::r_line;
 pub use line::v_line;
+pub use line::z_line;
 pub use record::LENGTH;
 pub use record::Next;
 pub use record::Record;

@@ -5,7 +5,7 @@ ghost use mathlib.Core.List.{_∷_, _++_};
 ghost use Prim.Native.Nat.{_+_, _≤_};
 ghost use lib.ListN.{length};
 ghost use Rattle.records.specs.Text.{Put};
-ghost use Rattle.records.specs.Lines.{number, double, vLine, dLine, aLine, fLine, rLine, bracket, pair};
+ghost use Rattle.records.specs.Lines.{number, double, vLine, zLine, dLine, aLine, fLine, rLine, bracket, pair};
 use super::text;
 
 // A space and a number.
@@ -68,6 +68,18 @@ pub fn v_line(
     let b = number(out, a, mode as u64);
     let c = number(out, b, steps as u64);
     bracket(out, c, value, lower, upper)
+}
+
+// The line after it: 1 where 1e-30 was put in for a zero pivot, else 0.
+pub fn z_line(out: &mut [u8], at: usize, index: u64, mode: u16, substituted: u8) -> usize
+    requires { ⌜ at + 33 ≤ length (now out) ⌝ }
+    ensures { λ r. ⌜ Put (now (out .entry)) (now (out .exit)) at r (zLine index mode substituted) ⌝ }
+    ensures { λ r. ⌜ r ≤ at + 33 ⌝ }
+{
+    let a = start(out, at, b'Z', index);
+    let b = number(out, a, mode as u64);
+    let c = number(out, b, substituted as u64);
+    text::byte(out, c, b'\n')
 }
 
 // The line of a mode in a row of DLMF's form.

@@ -9,7 +9,7 @@ use lib.Ieee.{Float}
 use lib.ListN.{getD, replicate}
 use Rattle.arith.specs.Double.{at, #0}
 use Rattle.records.specs.declared.record.Record.{Record}
-use Rattle.records.specs.Lines.{number, double, newline, bracket, pair, vLine, dLine, aLine, fLine, rLine}
+use Rattle.records.specs.Lines.{number, double, newline, bracket, pair, vLine, zLine, dLine, aLine, fLine, rLine}
 use Rattle.segv.specs.Row.{Slices}
 use Rattle.modes.specs.declared.answers.Answer.{Answer}
 use Rattle.modes.specs.declared.answers.Answer.the-variants as Answers
@@ -20,7 +20,7 @@ use Rattle.modes.specs.Operations.{operationOf}
 use Rattle.modes.specs.Rows.{rowOf, dlmfOf, blankSlices}
 use Rattle.modes.specs.Angular.{angularOf}
 use Rattle.modes.specs.Radial.{radialOf}
-use Rattle.stream.specs.Response.{vLines, dLines, rowText, dlmfText, answerText, modeOf, textOf, responseTo}
+use Rattle.stream.specs.Response.{rowLines, dLines, rowText, dlmfText, answerText, modeOf, textOf, responseTo}
 use Rattle.stream.specs.Ignored.{AgreeFor, Alike, Line, numbered, IgnoredFields}
 
 -- ---- the lines of a record without its number
@@ -34,6 +34,9 @@ rNumberless refusal = line (code "R") (number refusal ++ newline)
 abbrev vNumberless : ℕ → Slices → ℕ → Line
 vNumberless m row j = line (code "V") (number (m + j) ++ number (getD (row .steps) j 0) ++ bracket (at (row .values) j) (at (row .lowers) j) (at (row .uppers) j))
 
+abbrev zNumberless : ℕ → Slices → ℕ → Line
+zNumberless m row j = line (code "Z") (number (m + j) ++ number (getD (row .substituted) j 0) ++ newline)
+
 abbrev dNumberless : ℕ → List Float → ℕ → Line
 dNumberless m row j = line (code "D") (number (m + j) ++ double (at row j) ++ newline)
 
@@ -43,10 +46,16 @@ aNumberless m n value derivative = line (code "A") (number m ++ number n ++ pair
 abbrev fNumberless : ℕ → ℕ → Float → Float → Float → Float → Line
 fNumberless m n value1 derivative1 value2 derivative2 = line (code "F") (number m ++ number n ++ pair value1 derivative1 ++ pair value2 derivative2 ++ newline)
 
--- of a row's first `count` modes
-unfoldable eachNumberless : (ℕ → Line) → ℕ → List Line
+-- of a row's first `count` modes, each with some lines
+unfoldable eachNumberless : (ℕ → List Line) → ℕ → List Line
 eachNumberless of zero = []
-eachNumberless of (suc j) = eachNumberless of j ++ of j ∷ []
+eachNumberless of (suc j) = eachNumberless of j ++ of j
+
+abbrev rowNumberless : ℕ → Slices → ℕ → List Line
+rowNumberless m row j = vNumberless m row j ∷ zNumberless m row j ∷ []
+
+abbrev dlmfNumberless : ℕ → List Float → ℕ → List Line
+dlmfNumberless m row j = dNumberless m row j ∷ []
 
 unfoldable answerNumberless : ℕ → ℕ → Answer → Line
 answerNumberless m n (Pair value derivative) = aNumberless m n value derivative
@@ -56,10 +65,10 @@ answerNumberless m n (Answers.Refused k) = rNumberless k
 unfoldable numberless : Operation → Record → List Line
 numberless (Row kind) r =
     let a = rowOf kind (modeOf r) (r .allowance) blankSlices in
-    cond (eqb (a .number) 0) (eachNumberless (vNumberless (r .m) (a .after)) (r .n - r .m + 1)) (rNumberless (a .number) ∷ [])
+    cond (eqb (a .number) 0) (eachNumberless (rowNumberless (r .m) (a .after)) (r .n - r .m + 1)) (rNumberless (a .number) ∷ [])
 numberless (DlmfRow kind) r =
     let a = dlmfOf kind (modeOf r) (r .allowance) (replicate 200 #0) in
-    cond (eqb (a .number) 0) (eachNumberless (dNumberless (r .m) (a .after)) (r .n - r .m + 1)) (rNumberless (a .number) ∷ [])
+    cond (eqb (a .number) 0) (eachNumberless (dlmfNumberless (r .m) (a .after)) (r .n - r .m + 1)) (rNumberless (a .number) ∷ [])
 numberless (Angular kind) r = answerNumberless (r .m) (r .n) (angularOf kind (modeOf r) (r .cv) (r .x)) ∷ []
 numberless Radial r = answerNumberless (r .m) (r .n) (radialOf (modeOf r) (r .cv) (r .x)) ∷ []
 numberless (Refused k) r = rNumberless k ∷ []
@@ -76,6 +85,9 @@ assoc-3 a b c d = ap (λ (t : List ℕ). t ++ d) (append-assoc a b c) ∙ append
 
 v-put : (i m : ℕ) (row : Slices) (j : ℕ) → vLine i (m + j) (getD (row .steps) j 0) (at (row .values) j) (at (row .lowers) j) (at (row .uppers) j) ≡ put i (vNumberless m row j)
 v-put i m row j = assoc-3 (code "V" ∷ number i) (number (m + j)) (number (getD (row .steps) j 0)) (bracket (at (row .values) j) (at (row .lowers) j) (at (row .uppers) j))
+
+z-put : (i m : ℕ) (row : Slices) (j : ℕ) → zLine i (m + j) (getD (row .substituted) j 0) ≡ put i (zNumberless m row j)
+z-put i m row j = assoc-3 (code "Z" ∷ number i) (number (m + j)) (number (getD (row .substituted) j 0)) newline
 
 d-put : (i m : ℕ) (row : List Float) (j : ℕ) → dLine i (m + j) (at row j) ≡ put i (dNumberless m row j)
 d-put i m row j = assoc-3 (code "D" ∷ number i) (number (m + j)) (double (at row j)) newline
@@ -106,15 +118,18 @@ numbered-append i (x ∷ xs) ys = append-assoc (put i x) (numbered i xs) (number
 on : (i : ℕ) (text more : List ℕ) (xs : List Line) (l : Line) → text ≡ numbered i xs → more ≡ put i l → text ++ more ≡ numbered i (xs ++ l ∷ [])
 on i text more xs l e h = ap (λ (t : List ℕ). t ++ more) e ∙ ap (λ (t : List ℕ). numbered i xs ++ t) (one i more l h) ∙ numbered-append i xs (l ∷ [])
 
-v-numbered : (i m : ℕ) (row : Slices) (count : ℕ) → vLines i m row count ≡ numbered i (eachNumberless (vNumberless m row) count)
-unfolding vLines eachNumberless numbered
-v-numbered i m row zero = refl
-v-numbered i m row (suc j) = on i (vLines i m row j) _ (eachNumberless (vNumberless m row) j) (vNumberless m row j) (v-numbered i m row j) (v-put i m row j)
+row-lines-numbered : (i m : ℕ) (row : Slices) (count : ℕ) → rowLines i m row count ≡ numbered i (eachNumberless (rowNumberless m row) count)
+unfolding rowLines eachNumberless numbered
+row-lines-numbered i m row zero = refl
+row-lines-numbered i m row (suc j) =
+    let so-far = eachNumberless (rowNumberless m row) j in
+    on i _ _ (so-far ++ vNumberless m row j ∷ []) (zNumberless m row j) (on i (rowLines i m row j) _ so-far (vNumberless m row j) (row-lines-numbered i m row j) (v-put i m row j)) (z-put i m row j)
+    ∙ ap (numbered i) (append-assoc so-far (vNumberless m row j ∷ []) (zNumberless m row j ∷ []))
 
-d-numbered : (i m : ℕ) (row : List Float) (count : ℕ) → dLines i m row count ≡ numbered i (eachNumberless (dNumberless m row) count)
+d-lines-numbered : (i m : ℕ) (row : List Float) (count : ℕ) → dLines i m row count ≡ numbered i (eachNumberless (dlmfNumberless m row) count)
 unfolding dLines eachNumberless numbered
-d-numbered i m row zero = refl
-d-numbered i m row (suc j) = on i (dLines i m row j) _ (eachNumberless (dNumberless m row) j) (dNumberless m row j) (d-numbered i m row j) (d-put i m row j)
+d-lines-numbered i m row zero = refl
+d-lines-numbered i m row (suc j) = on i (dLines i m row j) _ (eachNumberless (dlmfNumberless m row) j) (dNumberless m row j) (d-lines-numbered i m row j) (d-put i m row j)
 
 -- the lines of a row, or its refusal's
 row-numbered : (i k : ℕ) (text : List ℕ) (xs : List Line) → text ≡ numbered i xs → cond (eqb k 0) text (rLine i k) ≡ numbered i (cond (eqb k 0) xs (rNumberless k ∷ []))
@@ -129,8 +144,8 @@ answer-numbered i m n a = one i (answerText i m n a) (answerNumberless m n a) (a
 
 text-numbered : (i : ℕ) (op : Operation) (r : Record) → textOf op i r ≡ numbered i (numberless op r)
 unfolding textOf rowText dlmfText numberless
-text-numbered i (Row kind) r = let a = rowOf kind (modeOf r) (r .allowance) blankSlices in row-numbered i (a .number) _ _ (v-numbered i (r .m) (a .after) (r .n - r .m + 1))
-text-numbered i (DlmfRow kind) r = let a = dlmfOf kind (modeOf r) (r .allowance) (replicate 200 #0) in row-numbered i (a .number) _ _ (d-numbered i (r .m) (a .after) (r .n - r .m + 1))
+text-numbered i (Row kind) r = let a = rowOf kind (modeOf r) (r .allowance) blankSlices in row-numbered i (a .number) _ _ (row-lines-numbered i (r .m) (a .after) (r .n - r .m + 1))
+text-numbered i (DlmfRow kind) r = let a = dlmfOf kind (modeOf r) (r .allowance) (replicate 200 #0) in row-numbered i (a .number) _ _ (d-lines-numbered i (r .m) (a .after) (r .n - r .m + 1))
 text-numbered i (Angular kind) r = answer-numbered i (r .m) (r .n) (angularOf kind (modeOf r) (r .cv) (r .x))
 text-numbered i Radial r = answer-numbered i (r .m) (r .n) (radialOf (modeOf r) (r .cv) (r .x))
 text-numbered i (Refused k) r = one i (rLine i k) (rNumberless k) (r-put i k)

@@ -22,7 +22,7 @@ use Rattle.modes.specs.Answers.{given, outcome}
 use Rattle.modes.specs.Rows.{rowOf, blankSlices, dlmfOf}
 use Rattle.modes.proofs.Laws.{Accepted, row-mode, dlmf-mode}
 use Rattle.modes.proofs.Given.{given-filled, given-refused}
-use Rattle.stream.specs.Response.{vLines, dLines, rowText, dlmfText}
+use Rattle.stream.specs.Response.{rowLines, dLines, rowText, dlmfText}
 
 -- no text at all
 pub put-nothing : (l : List ℕ) (at : ℕ) → at ≤ length l → Put l l at at []
@@ -32,12 +32,12 @@ pub put-same : {a b : List ℕ} {f t : ℕ} {x y : List ℕ} → x ≡ y → Put
 put-same {a} {b} {f} {t} e p = subst (Put a b f t) e p
 
 -- ---- rows
-module _ (index : ℕ) (kind : Kind) (x : Mode) (allowance : ℕ) (v : List Float) (s : List ℕ) (w u : List Float)
-    (hv : v ≡ replicate 200 #0) (hs : s ≡ replicate 200 0) (hw : w ≡ replicate 200 #0) (hu : u ≡ replicate 200 #0)
-    (r : SliceAnswer) (after : Slices) (e : record { answer = r; after = after } ≡ outcome (rowOf kind x allowance (slices v s w u))) where
-  blank-is : slices v s w u ≡ blankSlices
+module _ (index : ℕ) (kind : Kind) (x : Mode) (allowance : ℕ) (v : List Float) (s : List ℕ) (w u : List Float) (f : List ℕ)
+    (hv : v ≡ replicate 200 #0) (hs : s ≡ replicate 200 0) (hw : w ≡ replicate 200 #0) (hu : u ≡ replicate 200 #0) (hf : f ≡ replicate 200 0)
+    (r : SliceAnswer) (after : Slices) (e : record { answer = r; after = after } ≡ outcome (rowOf kind x allowance (slices v s w u f))) where
+  blank-is : slices v s w u f ≡ blankSlices
   unfolding blankSlices
-  blank-is = rw (hv, hs, hw, hu)
+  blank-is = rw (hv, hs, hw, hu, hf)
 
   answer-is : r ≡ given (rowOf kind x allowance blankSlices .number)
   answer-is = ap (λ o. o .answer) e ∙ ap (λ (l : Slices). given (rowOf kind x allowance l .number)) blank-is
@@ -51,7 +51,7 @@ module _ (index : ℕ) (kind : Kind) (x : Mode) (allowance : ℕ) (v : List Floa
   pub row-accepted : r ≡ Filled → Accepted x
   row-accepted f = row-mode kind x allowance blankSlices (eqb-true _ 0 (row-number f))
 
-  pub row-filled : r ≡ Filled → vLines index (x .m) after (x .n - x .m + 1) ≡ rowText index kind x allowance
+  pub row-filled : r ≡ Filled → rowLines index (x .m) after (x .n - x .m + 1) ≡ rowText index kind x allowance
   unfolding rowText
   row-filled f = rw (row-number f, after-is)
 

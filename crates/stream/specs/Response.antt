@@ -1,4 +1,4 @@
--- The lines of a record, in document 01's words: a row prints one line for each mode from m to n, and a refusal its number. Definitions only.
+-- The lines of a record, in document 01's words: a row prints one line for each mode from m to n, a row of operation 1 or 2 another after it, and a refusal prints its number. Definitions only.
 use Prim.Native.Nat.{ℕ, zero, suc, _+_, _-_}
 use mathlib.Core.Bool.{cond}
 use mathlib.Core.List.{List, [], _++_}
@@ -7,7 +7,7 @@ use lib.Ieee.{Float}
 use lib.ListN.{getD, replicate}
 use Rattle.arith.specs.Double.{at, #0}
 use Rattle.records.specs.declared.record.Record.{Record}
-use Rattle.records.specs.Lines.{vLine, dLine, aLine, fLine, rLine}
+use Rattle.records.specs.Lines.{vLine, zLine, dLine, aLine, fLine, rLine}
 use Rattle.segv.specs.Row.{Slices}
 use Rattle.modes.specs.declared.answers.Answer.{Answer}
 use Rattle.modes.specs.declared.answers.Answer.the-variants as Answers
@@ -21,10 +21,13 @@ use Rattle.modes.specs.Rows.{rowOf, dlmfOf, blankSlices}
 use Rattle.modes.specs.Angular.{angularOf}
 use Rattle.modes.specs.Radial.{radialOf}
 
--- the lines of a row's first `count` modes
-unfoldable pub vLines : ℕ → ℕ → Slices → ℕ → List ℕ
-vLines index m row zero = []
-vLines index m row (suc j) = vLines index m row j ++ vLine index (m + j) (getD (row .steps) j 0) (at (row .values) j) (at (row .lowers) j) (at (row .uppers) j)
+-- the lines of a row's first `count` modes, `V` and `Z` for each
+unfoldable pub rowLines : ℕ → ℕ → Slices → ℕ → List ℕ
+rowLines index m row zero = []
+rowLines index m row (suc j) =
+    rowLines index m row j
+    ++ vLine index (m + j) (getD (row .steps) j 0) (at (row .values) j) (at (row .lowers) j) (at (row .uppers) j)
+    ++ zLine index (m + j) (getD (row .substituted) j 0)
 
 unfoldable pub dLines : ℕ → ℕ → List Float → ℕ → List ℕ
 dLines index m row zero = []
@@ -34,7 +37,7 @@ dLines index m row (suc j) = dLines index m row j ++ dLine index (m + j) (at row
 unfoldable pub rowText : ℕ → Kind → Mode → ℕ → List ℕ
 rowText index kind x allowance =
     let a = rowOf kind x allowance blankSlices in
-    cond (eqb (a .number) 0) (vLines index (x .m) (a .after) (x .n - x .m + 1)) (rLine index (a .number))
+    cond (eqb (a .number) 0) (rowLines index (x .m) (a .after) (x .n - x .m + 1)) (rLine index (a .number))
 
 unfoldable pub dlmfText : ℕ → Kind → Mode → ℕ → List ℕ
 dlmfText index kind x allowance =

@@ -4,7 +4,7 @@ ghost use Prim.Native.Nat.{_+_, _*_, _<_, _≤_};
 ghost use lib.ListN.{length};
 ghost use Rattle.records.specs.Text.{Put};
 ghost use Rattle.segv.specs.Row.{slices};
-ghost use Rattle.stream.specs.Response.{vLines, dLines, rowText, dlmfText, answerText, responseTo};
+ghost use Rattle.stream.specs.Response.{rowLines, dLines, rowText, dlmfText, answerText, responseTo};
 ghost use Rattle.stream.specs.Inside.Calls.{longest};
 use modes::Answer;
 use modes::Kind;
@@ -13,38 +13,41 @@ use modes::Operation;
 use modes::SliceAnswer;
 use records::Record;
 
-// No record's lines have more bytes: a row has at most 200 lines of 86.
-pub const LONGEST: usize = 17200;
+// No record's lines have more bytes: a row has at most 200 lines of 86, and as many of 33.
+pub const LONGEST: usize = 23800;
 
-// The `V` lines of a row's first `count` modes.
-fn put_v_lines(
+// The `V` and `Z` lines of a row's first `count` modes.
+fn put_row_lines(
     values: &[f64; 200],
     steps: &[u16; 200],
     lowers: &[f64; 200],
     uppers: &[f64; 200],
+    substituted: &[u8; 200],
     index: u64,
     m: u16,
     count: usize,
     out: &mut [u8],
     at: usize,
 ) -> usize
-    requires { ⌜ (count ≤ 200) × (m < 1000) × (at + 86 * count ≤ length (now out)) ⌝ }
-    ensures { λ r. ⌜ Put (now (out .entry)) (now (out .exit)) at r (vLines index m (slices (now (values .entry)) (now (steps .entry)) (now (lowers .entry)) (now (uppers .entry))) count) ⌝ }
-    ensures { λ r. ⌜ r ≤ at + 86 * count ⌝ }
+    requires { ⌜ (count ≤ 200) × (m < 1000) × (at + 119 * count ≤ length (now out)) ⌝ }
+    ensures { λ r. ⌜ Put (now (out .entry)) (now (out .exit)) at r (rowLines index m (slices (now (values .entry)) (now (steps .entry)) (now (lowers .entry)) (now (uppers .entry)) (now (substituted .entry))) count) ⌝ }
+    ensures { λ r. ⌜ r ≤ at + 119 * count ⌝ }
 {
     let mut used = at;
     let mut j: usize = 0;
     while j < count {
-        used = records::v_line(
+        let mode = m + (j as u16);
+        let after = records::v_line(
             out,
             used,
             index,
-            m + (j as u16),
+            mode,
             steps[j],
             values[j],
             lowers[j],
             uppers[j],
         );
+        used = records::z_line(out, after, index, mode, substituted[j]);
         j = j + 1;
     }
     used
@@ -88,6 +91,7 @@ fn respond_row(
     let mut steps = modes::zero_steps();
     let mut lowers = expansion::sums::blank();
     let mut uppers = expansion::sums::blank();
+    let mut substituted = modes::zero_flags();
     let answer = modes::row(
         kind,
         mode,
@@ -96,13 +100,15 @@ fn respond_row(
         &mut steps,
         &mut lowers,
         &mut uppers,
+        &mut substituted,
     );
     match answer {
-        SliceAnswer::Filled => put_v_lines(
+        SliceAnswer::Filled => put_row_lines(
             &values,
             &steps,
             &lowers,
             &uppers,
+            &substituted,
             index,
             mode.m,
             (mode.n - mode.m) as usize + 1,

@@ -11,9 +11,9 @@ use Rattle.stream.specs.declared.stream.Progress.{Progress}
 use Rattle.stream.specs.Response.{responseTo}
 use Rattle.stream.specs.Stream.{linesFrom}
 
--- no record's lines have more bytes: a row has at most 200 lines of 86
+-- no record's lines have more bytes: a row has at most 200 lines of 86, and as many of 33
 abbrev pub longest : ℕ
-longest = 200 * 86
+longest = 200 * (86 + 33)
 
 -- What one call answers: its lines, the byte and the number of the record that comes next, and whether the stream was refused there, so that nothing follows.
 pub record Answered : Type 0 where

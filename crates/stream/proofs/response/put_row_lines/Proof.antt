@@ -1,4 +1,4 @@
--- `stream::response::put_v_lines` meets its contract. The invariant: the lines of the modes so far are put. Assumes nothing.
+-- `stream::response::put_row_lines` meets its contract. The invariant: the lines of the modes so far are put. Assumes nothing.
 use Prim.Native.Nat.{_+_, _-_, _*_, _≤_}
 use mathlib.Core.Path.{_≡_, refl}
 use native.Mathlib.Omega.{arith}
@@ -8,27 +8,27 @@ use borrow.Author.Needs.{needs}
 use Rattle.records.specs.Text.{Put}
 use Rattle.records.proofs.Laws.{put-then, put-length}
 use Rattle.segv.specs.Row.{slices}
-use Rattle.stream.specs.Response.{vLines}
+use Rattle.stream.specs.Response.{rowLines}
 use Rattle.stream.proofs.Laws.{put-nothing}
-use Rattle.stream.proofs.response.put_v_lines.Statement.{statement}
-use Rattle.stream.proofs.response.put_v_lines.Tie as tie
+use Rattle.stream.proofs.response.put_row_lines.Statement.{statement}
+use Rattle.stream.proofs.response.put_row_lines.Tie as tie
 
 abbrev Inv-loop : tie.InvT-loop
-Inv-loop values steps lowers uppers index m count out₀ at used₀ j₀ out used j =
-    (j ≤ count) × (length out ≡ length out₀) × (used ≤ at + 86 * j) × Put out₀ out at used (vLines index m (slices values steps lowers uppers) j)
+Inv-loop values steps lowers uppers substituted index m count out₀ at used₀ j₀ out used j =
+    (j ≤ count) × (length out ≡ length out₀) × (used ≤ at + 119 * j) × Put out₀ out at used (rowLines index m (slices values steps lowers uppers substituted) j)
 
 abbrev μ-loop : tie.MeasureT-loop
-μ-loop values steps lowers uppers index m count out₀ at used₀ j₀ out used j = count - j
+μ-loop values steps lowers uppers substituted index m count out₀ at used₀ j₀ out used j = count - j
 
 loop-holds : tie.Need-loop-holds Inv-loop μ-loop
-unfolding vLines
+unfolding rowLines
 loop-holds c = (omega arith, refl, omega arith, put-nothing _ _ (omega arith))
 
-cast-v-line : tie.Need-cast-v-line Inv-loop μ-loop
-cast-v-line c = search needs
+cast-mode : tie.Need-cast-mode Inv-loop μ-loop
+cast-mode c = search needs
 
-add-v-line : tie.Need-add-v-line Inv-loop μ-loop
-add-v-line c = search needs
+add-mode : tie.Need-add-mode Inv-loop μ-loop
+add-mode c = search needs
 
 mul-v-line : tie.Need-mul-v-line Inv-loop μ-loop
 mul-v-line c = search needs
@@ -57,6 +57,12 @@ element-copy-out-v-line-4 c = search needs
 v-line-requires : tie.Need-v-line-requires Inv-loop μ-loop
 v-line-requires c κs = search needs
 
+element-copy-out-z-line : tie.Need-element-copy-out-z-line Inv-loop μ-loop
+element-copy-out-z-line c = search needs
+
+z-line-requires : tie.Need-z-line-requires Inv-loop μ-loop
+z-line-requires c κs = search needs
+
 add-j : tie.Need-add-j Inv-loop μ-loop
 add-j c = search needs
 
@@ -64,12 +70,13 @@ loop-less : tie.Need-loop-less Inv-loop μ-loop
 loop-less c = search needs
 
 loop-again : tie.Need-loop-again Inv-loop μ-loop
-unfolding vLines
+unfolding rowLines
 loop-again c =
-    let l = c .before .before .before .before .before .before .before .before .before .loop in
-    let p = c .before .before .v-line .ensures in
-    let q = put-then (l .inv .3) (p .0) in
-    (omega arith, put-length q, omega (arith, p .1), rw (add-one (l .j)) q)
+    let l = c .before .before .before .before .before .before .before .before .before .before .before .before .before .before .loop in
+    let p = c .before .before .before .before .before .before .before .v-line .ensures in
+    let z = c .before .before .z-line .ensures in
+    let q = put-then (put-then (l .inv .3) (p .0)) (z .0) in
+    (omega arith, put-length q, omega (arith, p .1, z .1), rw (add-one (l .j)) q)
 
 same-length : tie.Need-same-length Inv-loop μ-loop
 same-length c = search needs
@@ -80,15 +87,15 @@ returns c =
     let h : l .j ≡ c .before .before .before .args .count = omega arith in
     (rw (← h) (l .inv .3), omega arith)
 
-pub put-v-lines-spec : {M : Type 1} → statement M
-put-v-lines-spec =
+pub put-row-lines-spec : {M : Type 1} → statement M
+put-row-lines-spec =
     tie.close
     (tie.spec
     Inv-loop
     μ-loop
     loop-holds
-    cast-v-line
-    add-v-line
+    cast-mode
+    add-mode
     mul-v-line
     element-copy-out-v-line
     mul-v-line-2
@@ -98,6 +105,8 @@ put-v-lines-spec =
     mul-v-line-4
     element-copy-out-v-line-4
     v-line-requires
+    element-copy-out-z-line
+    z-line-requires
     add-j
     loop-less
     loop-again
