@@ -14,7 +14,7 @@ use Rattle.arith.specs.Double.{_⊗_, #0, #1e-10}
 use Rattle.arith.proofs.Flags.{not-left}
 use Rattle.segv.specs.declared.bisection.Bracket.{Bracket}
 use Rattle.segv.specs.Families.{Families, bothFamilies, eitherStopped}
-use Rattle.segv.specs.Row.{Slices, written, writtenRow, answer, modeAt, segvRow}
+use Rattle.segv.specs.Row.{Slices, flag, written, writtenRow, answer, modeAt, segvRow}
 use Rattle.modes.specs.declared.checking.Mode.{Mode}
 use Rattle.modes.specs.declared.checking.Kind.{Kind}
 use Rattle.modes.specs.Refusals.{rowRefusal, signOf, entriesOf}
@@ -45,6 +45,7 @@ pub record Long (x : Mode) (l : Slices) : Type 0 where
   pub s : x .n - x .m < length (l .steps)
   pub w : x .n - x .m < length (l .lowers)
   pub u : x .n - x .m < length (l .uppers)
+  pub f : x .n - x .m < length (l .substituted)
 
 pub long-all : (x : Mode) (l : Slices) → tooShort x l ≡ false → Long x l
 unfolding tooShort
@@ -53,7 +54,9 @@ long-all x l h =
     let v = leb (length (l .values)) k in
     let s = leb (length (l .steps)) k in
     let w = leb (length (l .lowers)) k in
-    let a = neither (v || s || w) (leb (length (l .uppers)) k) h in
+    let u = leb (length (l .uppers)) k in
+    let f = neither (v || s || w || u) (leb (length (l .substituted)) k) h in
+    let a = neither (v || s || w) u (f .0) in
     let b = neither (v || s) w (a .0) in
     let c = neither v s (b .0) in
     record {
@@ -61,6 +64,7 @@ long-all x l h =
       s = leb-false (length (l .steps)) k (c .1);
       w = leb-false (length (l .lowers)) k (b .1);
       u = leb-false (length (l .uppers)) k (a .1);
+      f = leb-false (length (l .substituted)) k (f .1);
     }
 
 pub blank-room : (x : Mode) → Accepted x → tooShort x blankSlices ≡ false
@@ -68,7 +72,7 @@ unfolding blankSlices
 blank-room x r =
     let d = length-replicate 200 #0 in
     let s = length-replicate {A = ℕ} 200 0 in
-    long-enough x blankSlices (omega (arith, d, r)) (omega (arith, s, r)) (omega (arith, d, r)) (omega (arith, d, r))
+    long-enough x blankSlices (omega (arith, d, r)) (omega (arith, s, r)) (omega (arith, d, r)) (omega (arith, d, r)) (omega (arith, s, r))
 
 -- ---- an accepted row
 module _ (kind : Kind) (x : Mode) (allowance : ℕ) where
@@ -123,6 +127,10 @@ module _ (kind : Kind) (x : Mode) (allowance : ℕ) where
     filled-of r s g = rw (r, s) (g .row-in-is l)
 
 -- what is handed out
+pub flag-back : (b : Bool) → eqb (flag b) 1 ≡ b
+flag-back true = refl
+flag-back false = refl
+
 pub handed-at : (x : Mode) (bracket : ℕ → Bracket) (l : Slices) → Long x l → (j : ℕ) → j ≤ x .n - x .m → handed (writtenRow bracket (x .n - x .m + 1) l) j ≡ bracket j
 unfolding writtenRow
 handed-at x bracket l k j hj =
@@ -132,4 +140,6 @@ handed-at x bracket l k j hj =
       written-at (λ b. b .lower) bracket (l .lowers) nan n j (omega arith) (omega (arith, k .w)),
       written-at (λ b. b .upper) bracket (l .uppers) nan n j (omega arith) (omega (arith, k .u)),
       written-at (λ b. b .steps) bracket (l .steps) 0 n j (omega arith) (omega (arith, k .s)),
+      written-at (λ b. flag (b .substituted)) bracket (l .substituted) 0 n j (omega arith) (omega (arith, k .f)),
+      flag-back (bracket j .substituted),
     )

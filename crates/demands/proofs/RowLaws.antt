@@ -1,5 +1,5 @@
 -- The statements of `specs/RowLaws.antt`. Assumes nothing.
-use Prim.Native.Nat.{ℕ, _+_, _^_, _≤_}
+use Prim.Native.Nat.{ℕ, _+_, _-_, _^_, _≤_}
 use native.Mathlib.Nat.{mul-le-mul}
 use native.Mathlib.Omega.{arith}
 use mathlib.Core.Path.{_≡_, refl, ap, _∙_}
@@ -9,27 +9,36 @@ use Rattle.arith.specs.Double.{_⊖_, _⊗_, dbl, #0, #1e-10}
 use Rattle.arith.proofs.Laws.{dbl-product}
 use Rattle.segv.specs.declared.bisection.Bracket.{Bracket}
 use Rattle.segv.specs.Families.{eitherStopped}
-use Rattle.segv.specs.Row.{Slices}
+use lib.Dec.{eqb}
+use Rattle.segv.specs.Row.{Slices, flag, writtenRow}
 use Rattle.segv.proofs.Allowance.{families-more}
 use Rattle.modes.specs.declared.checking.Mode.{Mode}
 use Rattle.modes.specs.declared.checking.Kind.{Kind}
 use Rattle.modes.specs.Refusals.{signOf, entriesOf}
 use Rattle.modes.specs.Rows.{rowOf, rowIn, zeroAt, blankSlices}
 use Rattle.modes.proofs.Laws.{dlmf-mode}
-use Rattle.demands.specs.RowLaws.{dlmfAtZero, ZeroParameter, DlmfZeroParameter, MoreAllowance}
+use Rattle.demands.specs.RowLaws.{dlmfAtZero, ZeroParameter, FlagsHanded, DlmfZeroParameter, MoreAllowance}
 use Rattle.demands.proofs.Zero.{zero-square, zero-below, less-zero}
 use Rattle.demands.proofs.Demand3.{demand-3-dlmf}
-use Rattle.demands.proofs.Filled.{bracketAt, filled, long-all, blank-room, handed-at}
+use Rattle.demands.proofs.Filled.{bracketAt, filled, long-all, blank-room, written-at, handed-at, flag-back}
 
-zero-is : (m j : ℕ) → m ≤ 199 → j ≤ 199 → let v = dbl (dlmfAtZero (m + j)) in zeroAt m j ≡ record { value = v; lower = v; upper = v; steps = 0 }
+zero-is : (m j : ℕ) → m ≤ 199 → j ≤ 199 → let v = dbl (dlmfAtZero (m + j)) in zeroAt m j ≡ record { value = v; lower = v; upper = v; steps = 0; substituted = false }
 unfolding zeroAt
-zero-is m j h k = ap (λ (v : Float). record { value = v; lower = v; upper = v; steps = 0 }) (dbl-product (m + j) (m + j + 1) (omega arith) (omega arith))
+zero-is m j h k = ap (λ (v : Float). record { value = v; lower = v; upper = v; steps = 0; substituted = false }) (dbl-product (m + j) (m + j + 1) (omega arith) (omega arith))
 
 pub zero-parameter : ZeroParameter
 zero-parameter kind x allowance l h z j hj =
     let g = filled kind x allowance l h in
     let r = g .range in
     rw (g .is, handed-at x (bracketAt kind x allowance) l (long-all x l (g .long)) j hj, z) (zero-is (x .m) j (r .order) (omega arith))
+
+pub flags-handed : FlagsHanded
+unfolding writtenRow
+flags-handed kind x allowance l h j hj =
+    let g = filled kind x allowance l h in
+    let k = long-all x l (g .long) in
+    let b = bracketAt kind x allowance in
+    rw (g .is, written-at (λ b. flag (b .substituted)) b (l .substituted) 0 (x .n - x .m + 1) j (omega arith) (omega (arith, k .f)), flag-back (b j .substituted))
 
 pub dlmf-zero-parameter : DlmfZeroParameter
 dlmf-zero-parameter kind x allowance xs h z j hj =

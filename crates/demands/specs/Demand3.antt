@@ -17,9 +17,16 @@ use Rattle.modes.specs.Refusals.{signOf, entriesOf}
 use Rattle.modes.specs.Rows.{rowOf, tooShort, dlmfOf}
 use Rattle.modes.specs.Angular.{angularOf}
 
--- what a row hands out for the mode at offset j: the value, and the lower, the upper and the step number beside it
+-- what a row hands out for the mode at offset j: the value, and the lower, the upper, the step number and the flag beside it, of which 1 is yes
 abbrev pub handed : Slices → ℕ → Bracket
-handed l j = record { value = at (l .values) j; lower = at (l .lowers) j; upper = at (l .uppers) j; steps = getD (l .steps) j 0 }
+handed l j =
+    record {
+      value = at (l .values) j;
+      lower = at (l .lowers) j;
+      upper = at (l .uppers) j;
+      steps = getD (l .steps) j 0;
+      substituted = eqb (getD (l .substituted) j 0) 1;
+    }
 
 -- Whatever m, n, allowance and c of at least 1e-10 an accepted row of operation 1 or 2 has, each characteristic value it hands out is the rounded midpoint of the lower and the upper
 -- handed out beside it. The rounded gap of these two over the value, rounded, is below 1e-14 in size. At the lower, document 01 counts fewer than k negative pivots, or it is the lower

@@ -15,8 +15,8 @@ asks operation = 0x53 ∷ 0x57 ∷ operation ∷ 0 ∷ 0 ∷ 2 ∷ replicate 27 
 abbrev pub streams : List (List ℕ × String)
 streams =
     ([], "") ∷
-    -- document 01's example
-    (asks 1 ++ 0x53 ∷ 0x57 ∷ 3 ∷ replicate 30 0, "V 0 0 0 0000000000000000 0000000000000000 0000000000000000\nV 0 1 0 4000000000000000 4000000000000000 4000000000000000\nV 0 2 0 4018000000000000 4018000000000000 4018000000000000\nA 1 0 0 3ff0000000000000 0000000000000000\n") ∷
+    -- document 01's example, with the lines of Card 1
+    (asks 1 ++ 0x53 ∷ 0x57 ∷ 3 ∷ replicate 30 0, "V 0 0 0 0000000000000000 0000000000000000 0000000000000000\nZ 0 0 0\nV 0 1 0 4000000000000000 4000000000000000 4000000000000000\nZ 0 1 0\nV 0 2 0 4018000000000000 4018000000000000 4018000000000000\nZ 0 2 0\nA 1 0 0 3ff0000000000000 0000000000000000\n") ∷
     -- no such operation: the stream goes on
     (asks 0 ++ asks 8 ++ asks 255 ++ asks 7, "R 0 3\nR 1 3\nR 2 3\nD 3 0 0000000000000000\nD 3 1 4000000000000000\nD 3 2 4018000000000000\n") ∷
     -- it ends inside a record, whatever the mark
@@ -33,10 +33,10 @@ streams =
 abbrev pub calls : List (List ℕ × ℕ × Answered)
 calls =
     -- too little room for any record
-    (asks 8 ++ asks 8, 17199, record { text = []; at = 0; index = 5; refused = false }) ∷
-    -- for one; for both: 17200 bytes are left after the first line
-    (asks 8 ++ asks 8, 17205, record { text = ascii "R 5 3\n"; at = 33; index = 6; refused = false }) ∷
-    (asks 8 ++ asks 8, 17206, record { text = ascii "R 5 3\nR 6 3\n"; at = 66; index = 7; refused = false }) ∷
+    (asks 8 ++ asks 8, 23799, record { text = []; at = 0; index = 5; refused = false }) ∷
+    -- for one; for both: 23800 bytes are left after the first line
+    (asks 8 ++ asks 8, 23805, record { text = ascii "R 5 3\n"; at = 33; index = 6; refused = false }) ∷
+    (asks 8 ++ asks 8, 23806, record { text = ascii "R 5 3\nR 6 3\n"; at = 66; index = 7; refused = false }) ∷
     -- a refused stream has its line, and the byte and the number are those of the record that is refused
-    (asks 8 ++ 0x53 ∷ [], 20000, record { text = ascii "R 5 3\nR 6 1\n"; at = 33; index = 6; refused = true }) ∷
+    (asks 8 ++ 0x53 ∷ [], 30000, record { text = ascii "R 5 3\nR 6 1\n"; at = 33; index = 6; refused = true }) ∷
     []

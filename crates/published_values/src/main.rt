@@ -26,6 +26,7 @@ fn value_of(kind: Kind, mode: Mode) -> f64 {
     let mut steps: [u16; 200] = [0; 200];
     let mut lowers = [0.0; 200];
     let mut uppers = [0.0; 200];
+    let mut substituted: [u8; 200] = [0; 200];
     modes::row(
         kind,
         mode,
@@ -34,6 +35,7 @@ fn value_of(kind: Kind, mode: Mode) -> f64 {
         &mut steps,
         &mut lowers,
         &mut uppers,
+        &mut substituted,
     );
     values[offset]
 }

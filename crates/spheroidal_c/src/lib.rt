@@ -33,11 +33,21 @@ fn row(
     steps: &mut [u16],
     lowers: &mut [f64],
     uppers: &mut [f64],
+    substituted: &mut [u8],
 ) -> u8
-    ensures { λ r. ⌜ answer r (slices (now (values .exit)) (now (steps .exit)) (now (lowers .exit)) (now (uppers .exit)))
-        ≡ rowOf kind mode allowance (slices (now (values .entry)) (now (steps .entry)) (now (lowers .entry)) (now (uppers .entry))) ⌝ }
+    ensures { λ r. ⌜ answer r (slices (now (values .exit)) (now (steps .exit)) (now (lowers .exit)) (now (uppers .exit)) (now (substituted .exit)))
+        ≡ rowOf kind mode allowance (slices (now (values .entry)) (now (steps .entry)) (now (lowers .entry)) (now (uppers .entry)) (now (substituted .entry))) ⌝ }
 {
-    number(modes::row(kind, mode, allowance, values, steps, lowers, uppers))
+    number(modes::row(
+        kind,
+        mode,
+        allowance,
+        values,
+        steps,
+        lowers,
+        uppers,
+        substituted,
+    ))
 }
 
 fn dlmf_row(kind: Kind, mode: Mode, allowance: u16, values: &mut [f64]) -> u8
@@ -98,7 +108,8 @@ fn angular(kind: Kind, mode: Mode, cv: f64, x: f64, value: &mut f64, derivative:
     put_pair(modes::angular(kind, mode, cv, x), value, derivative)
 }
 
-// The characteristic values of the modes from m to n, each with its step number and its bracket.
+// The characteristic values of the modes from m to n, each with its step number, its bracket, and 1 where 1e-30 was put
+// in for a zero pivot in a count made for it, else 0.
 #[no_mangle]
 pub extern "C" fn spheroidal_prolate_row(
     m: u16,
@@ -109,9 +120,10 @@ pub extern "C" fn spheroidal_prolate_row(
     steps: &mut [u16],
     lowers: &mut [f64],
     uppers: &mut [f64],
+    substituted: &mut [u8],
 ) -> u8
-    ensures { λ r. ⌜ answer r (slices (now (values .exit)) (now (steps .exit)) (now (lowers .exit)) (now (uppers .exit)))
-        ≡ rowOf Prolate (record { m = m; n = n; c = c }) allowance (slices (now (values .entry)) (now (steps .entry)) (now (lowers .entry)) (now (uppers .entry))) ⌝ }
+    ensures { λ r. ⌜ answer r (slices (now (values .exit)) (now (steps .exit)) (now (lowers .exit)) (now (uppers .exit)) (now (substituted .exit)))
+        ≡ rowOf Prolate (record { m = m; n = n; c = c }) allowance (slices (now (values .entry)) (now (steps .entry)) (now (lowers .entry)) (now (uppers .entry)) (now (substituted .entry))) ⌝ }
 {
     row(
         Kind::Prolate,
@@ -121,6 +133,7 @@ pub extern "C" fn spheroidal_prolate_row(
         steps,
         lowers,
         uppers,
+        substituted,
     )
 }
 
@@ -134,9 +147,10 @@ pub extern "C" fn spheroidal_oblate_row(
     steps: &mut [u16],
     lowers: &mut [f64],
     uppers: &mut [f64],
+    substituted: &mut [u8],
 ) -> u8
-    ensures { λ r. ⌜ answer r (slices (now (values .exit)) (now (steps .exit)) (now (lowers .exit)) (now (uppers .exit)))
-        ≡ rowOf Oblate (record { m = m; n = n; c = c }) allowance (slices (now (values .entry)) (now (steps .entry)) (now (lowers .entry)) (now (uppers .entry))) ⌝ }
+    ensures { λ r. ⌜ answer r (slices (now (values .exit)) (now (steps .exit)) (now (lowers .exit)) (now (uppers .exit)) (now (substituted .exit)))
+        ≡ rowOf Oblate (record { m = m; n = n; c = c }) allowance (slices (now (values .entry)) (now (steps .entry)) (now (lowers .entry)) (now (uppers .entry)) (now (substituted .entry))) ⌝ }
 {
     row(
         Kind::Oblate,
@@ -146,6 +160,7 @@ pub extern "C" fn spheroidal_oblate_row(
         steps,
         lowers,
         uppers,
+        substituted,
     )
 }
 

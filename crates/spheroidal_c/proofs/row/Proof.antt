@@ -22,8 +22,11 @@ same-length-3 c = search needs
 same-length-4 : tie.Need-same-length-4
 same-length-4 c = search needs
 
+same-length-5 : tie.Need-same-length-5
+same-length-5 c = search needs
+
 returns : tie.Need-returns
-returns c = laws.numbered-is _ _ _ _ (c .before .before .before .before .before .before .before .before .before .row .ensures) (c .number .ensures)
+returns c = laws.numbered-is _ _ _ _ (c .before .before .before .before .before .before .before .before .before .before .before .row .ensures) (c .number .ensures)
 
 pub row-spec : {M : Type 1} → statement M
 row-spec =
@@ -35,4 +38,5 @@ row-spec =
     same-length-2
     same-length-3
     same-length-4
+    same-length-5
     returns)
