@@ -3,11 +3,13 @@
 // pivots it is not proved. Each pivot waits for the division before it, so the counts at seven shifts
 // are taken in one loop, where seven divisions are under way at a time.
 ghost use mathlib.Core.Path.{_≡_};
-ghost use mathlib.Core.Bool.{false};
-ghost use Prim.Native.Nat.{_<_, _≤_};
+ghost use mathlib.Core.Bool.{false, cond};
+ghost use Prim.Native.Nat.{_+_, _<_, _≤_};
+ghost use lib.Ieee.{lt};
+ghost use Rattle.arith.specs.Double.{#0};
 ghost use Rattle.sturm.specs.Pivots as Pivots;
-ghost use Rattle.sturm.specs.Pivots.{noteZero, countNegative, noCount, negativePivots};
-ghost use Rattle.sturm.specs.Inside.SevenShifts.{each, eachCount, nextPivots, countsAt, NoZero, Few, noCounts, firstIn, substitutedIn, nextIn};
+ghost use Rattle.sturm.specs.Pivots.{noCount, negativePivots};
+ghost use Rattle.sturm.specs.Inside.SevenShifts.{each, nextPivots, countsAt, noCounts, NoZero, Few, countedOn, notedOn, countsOf};
 
 // The count at a shift.
 pub struct Count {
@@ -41,10 +43,26 @@ pub struct Counts {
     pub hh: Count,
 }
 
-// The pivots after some entries at seven shifts, and the counts up to them.
-pub struct Chains {
-    pub last: Seven,
-    pub counts: Counts,
+// The two parts of the counts so far. The loop carries them apart: a copy of a `Count` copies the
+// bytes between its fields too, one by one in the compiled code.
+struct Numbers {
+    x: usize,
+    l: usize,
+    h: usize,
+    ll: usize,
+    lh: usize,
+    hl: usize,
+    hh: usize,
+}
+
+struct Flags {
+    x: bool,
+    l: bool,
+    h: bool,
+    ll: bool,
+    lh: bool,
+    hl: bool,
+    hh: bool,
 }
 
 // A zero pivot would be divided by, so 1e-30 stands in for it.
@@ -64,39 +82,14 @@ fn pivot(d: f64, f: f64, s: f64, shift: f64) -> f64
     (d - f / s) - shift
 }
 
-// No count yet.
-pub fn no_count() -> Count
-    ensures { λ r. ⌜ r ≡ noCount ⌝ }
+fn counted(negative: usize, s: f64) -> usize
+    requires { ⌜ negative < 300 ⌝ }
+    ensures { λ r. ⌜ r ≡ cond (lt s #0) (negative + 1) negative ⌝ }
 {
-    Count {
-        negative: 0,
-        substituted: false,
+    if s < 0.0 {
+        return negative + 1;
     }
-}
-
-impl Count {
-    // Whether 1e-30 is put in for s.
-    fn noting(self, s: f64) -> Count
-        ensures { λ r. ⌜ r ≡ noteZero s self ⌝ }
-    {
-        Count {
-            negative: self.negative,
-            substituted: (s == 0.0) | self.substituted,
-        }
-    }
-
-    fn counting(self, s: f64) -> Count
-        requires { ⌜ self .negative < 300 ⌝ }
-        ensures { λ r. ⌜ r ≡ countNegative s self ⌝ }
-    {
-        if s < 0.0 {
-            return Count {
-                negative: self.negative + 1,
-                substituted: self.substituted,
-            };
-        }
-        self
-    }
+    negative
 }
 
 impl Seven {
@@ -155,80 +148,46 @@ impl Seven {
     }
 }
 
-impl Counts {
-    fn noting(self, s: Seven) -> Counts
-        ensures { λ r. ⌜ r ≡ eachCount noteZero s self ⌝ }
-    {
-        let x = self.x;
-        let l = self.l;
-        let h = self.h;
-        let ll = self.ll;
-        let lh = self.lh;
-        let hl = self.hl;
-        let hh = self.hh;
-        Counts {
-            x: x.noting(s.x),
-            l: l.noting(s.l),
-            h: h.noting(s.h),
-            ll: ll.noting(s.ll),
-            lh: lh.noting(s.lh),
-            hl: hl.noting(s.hl),
-            hh: hh.noting(s.hh),
-        }
-    }
-
-    fn counting(self, s: Seven) -> Counts
+impl Numbers {
+    fn counted(self, s: Seven) -> Numbers
         requires { ⌜ Few 300 self ⌝ }
-        ensures { λ r. ⌜ r ≡ eachCount countNegative s self ⌝ }
+        ensures { λ r. ⌜ r ≡ countedOn s self ⌝ }
     {
-        let x = self.x;
-        let l = self.l;
-        let h = self.h;
-        let ll = self.ll;
-        let lh = self.lh;
-        let hl = self.hl;
-        let hh = self.hh;
-        Counts {
-            x: x.counting(s.x),
-            l: l.counting(s.l),
-            h: h.counting(s.h),
-            ll: ll.counting(s.ll),
-            lh: lh.counting(s.lh),
-            hl: hl.counting(s.hl),
-            hh: hh.counting(s.hh),
+        Numbers {
+            x: counted(self.x, s.x),
+            l: counted(self.l, s.l),
+            h: counted(self.h, s.h),
+            ll: counted(self.ll, s.ll),
+            lh: counted(self.lh, s.lh),
+            hl: counted(self.hl, s.hl),
+            hh: counted(self.hh, s.hh),
         }
     }
 }
 
-impl Chains {
-    // What is divided by, and in which counts 1e-30 was put in. One branch for all seven keeps the
-    // substitute, which is rarely needed, from delaying every division.
-    fn substituted(self) -> Chains
-        ensures { λ r. ⌜ r ≡ substitutedIn self ⌝ }
+impl Flags {
+    // With a yes where 1e-30 is put in for a pivot of s.
+    fn noted(self, s: Seven) -> Flags
+        ensures { λ r. ⌜ r ≡ notedOn s self ⌝ }
     {
-        let last = self.last;
-        if last.any_zero() {
-            let counts = self.counts;
-            return Chains {
-                last: last.divisors(),
-                counts: counts.noting(last),
-            };
+        Flags {
+            x: (s.x == 0.0) | self.x,
+            l: (s.l == 0.0) | self.l,
+            h: (s.h == 0.0) | self.h,
+            ll: (s.ll == 0.0) | self.ll,
+            lh: (s.lh == 0.0) | self.lh,
+            hl: (s.hl == 0.0) | self.hl,
+            hh: (s.hh == 0.0) | self.hh,
         }
-        self
     }
+}
 
-    // The pivots after these divisors, at the entry d with f beside it, and counted.
-    fn next(self, d: f64, f: f64, shifts: Seven) -> Chains
-        requires { ⌜ Few 300 (self .counts) ⌝ }
-        ensures { λ r. ⌜ r ≡ nextIn d f shifts self ⌝ }
-    {
-        let divisors = self.last;
-        let counts = self.counts;
-        let last = divisors.next(d, f, shifts);
-        Chains {
-            last,
-            counts: counts.counting(last),
-        }
+pub fn no_count() -> Count
+    ensures { λ r. ⌜ r ≡ noCount ⌝ }
+{
+    Count {
+        negative: 0,
+        substituted: false,
     }
 }
 
@@ -247,11 +206,54 @@ pub fn no_counts() -> Counts
     }
 }
 
-// Before the first entry.
-fn first_chains() -> Chains
-    ensures { λ r. ⌜ r ≡ firstIn ⌝ }
+fn counts_of(negative: Numbers, substituted: Flags) -> Counts
+    ensures { λ r. ⌜ r ≡ countsOf negative substituted ⌝ }
 {
-    let last = Seven {
+    let x = Count {
+        negative: negative.x,
+        substituted: substituted.x,
+    };
+    let l = Count {
+        negative: negative.l,
+        substituted: substituted.l,
+    };
+    let h = Count {
+        negative: negative.h,
+        substituted: substituted.h,
+    };
+    let ll = Count {
+        negative: negative.ll,
+        substituted: substituted.ll,
+    };
+    let lh = Count {
+        negative: negative.lh,
+        substituted: substituted.lh,
+    };
+    let hl = Count {
+        negative: negative.hl,
+        substituted: substituted.hl,
+    };
+    let hh = Count {
+        negative: negative.hh,
+        substituted: substituted.hh,
+    };
+    Counts {
+        x,
+        l,
+        h,
+        ll,
+        lh,
+        hl,
+        hh,
+    }
+}
+
+// The count over the first `entries` entries, at each shift.
+pub fn negative_pivots(d: &[f64; 300], f: &[f64; 300], entries: usize, shifts: Seven) -> Counts
+    requires { ⌜ entries ≤ 300 ⌝ }
+    ensures { λ r. ⌜ r ≡ countsAt (negativePivots (now (d .entry)) (now (f .entry)) entries) shifts ⌝ }
+{
+    let mut s = Seven {
         x: 1.0,
         l: 1.0,
         h: 1.0,
@@ -260,21 +262,35 @@ fn first_chains() -> Chains
         hl: 1.0,
         hh: 1.0,
     };
-    let counts = no_counts();
-    Chains { last, counts }
-}
-
-// The count over the first `entries` entries, at each shift.
-pub fn negative_pivots(d: &[f64; 300], f: &[f64; 300], entries: usize, shifts: Seven) -> Counts
-    requires { ⌜ entries ≤ 300 ⌝ }
-    ensures { λ r. ⌜ r ≡ countsAt (negativePivots (now (d .entry)) (now (f .entry)) entries) shifts ⌝ }
-{
-    let mut chains = first_chains();
+    let mut negative = Numbers {
+        x: 0,
+        l: 0,
+        h: 0,
+        ll: 0,
+        lh: 0,
+        hl: 0,
+        hh: 0,
+    };
+    let mut substituted = Flags {
+        x: false,
+        l: false,
+        h: false,
+        ll: false,
+        lh: false,
+        hl: false,
+        hh: false,
+    };
     let mut i: usize = 0;
     while i < entries {
-        chains = chains.substituted().next(d[i], f[i], shifts);
+        // One branch for all seven keeps the substitute, which is rarely needed, from delaying every
+        // division.
+        if s.any_zero() {
+            substituted = substituted.noted(s);
+            s = s.divisors();
+        }
+        s = s.next(d[i], f[i], shifts);
+        negative = negative.counted(s);
         i = i + 1;
     }
-    let counts = chains.counts;
-    counts
+    counts_of(negative, substituted)
 }

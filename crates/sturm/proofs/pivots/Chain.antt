@@ -7,12 +7,12 @@ use native.Mathlib.Omega.{arith}
 use native.Mathlib.Numerals.{add-one}
 use lib.Ieee.{Float, lt}
 use Rattle.arith.specs.Double.{#0, #1, at}
-use Rattle.sturm.specs.Pivots.{Pivots, nextPivot, pivotsAt, negativePivots, noCount}
-use Rattle.sturm.specs.Inside.SevenShifts.{countsAt, firstIn, substitutedIn, nextIn, Few}
+use Rattle.sturm.specs.Pivots.{Pivots, divisor, nextPivot, pivotsAt, negativePivots, noCount}
+use Rattle.sturm.specs.Inside.SevenShifts.{each, countsAt, countsOf, nextPivots, countedOn, notedOn, NoZero, Few}
 use Rattle.sturm.specs.declared.pivots.Count.{Count}
-use Rattle.sturm.specs.declared.pivots.Counts.{Counts}
 use Rattle.sturm.specs.declared.pivots.Seven.{Seven}
-use Rattle.sturm.specs.declared.pivots.Chains.{Chains}
+use Rattle.sturm.specs.declared.pivots.Numbers.{Numbers}
+use Rattle.sturm.specs.declared.pivots.Flags.{Flags}
 
 -- ---- one chain
 
@@ -45,29 +45,38 @@ module _ (ds fs : List Float) (shift : Float) where
 
 -- ---- the seven
 
-pub record AllChains (ds fs : List Float) (shifts : Seven) (i : ℕ) (p : Chains) : Type 0 where
-  pub x : Chain ds fs (shifts .x) i (p .last .x) (p .counts .x)
-  pub l : Chain ds fs (shifts .l) i (p .last .l) (p .counts .l)
-  pub h : Chain ds fs (shifts .h) i (p .last .h) (p .counts .h)
-  pub ll : Chain ds fs (shifts .ll) i (p .last .ll) (p .counts .ll)
-  pub lh : Chain ds fs (shifts .lh) i (p .last .lh) (p .counts .lh)
-  pub hl : Chain ds fs (shifts .hl) i (p .last .hl) (p .counts .hl)
-  pub hh : Chain ds fs (shifts .hh) i (p .last .hh) (p .counts .hh)
+abbrev count : ℕ → Bool → Count
+count n b = record { negative = n; substituted = b }
+
+pub record Chains (ds fs : List Float) (shifts : Seven) (i : ℕ) (s : Seven) (n : Numbers) (b : Flags) : Type 0 where
+  pub x : Chain ds fs (shifts .x) i (s .x) (count (n .x) (b .x))
+  pub l : Chain ds fs (shifts .l) i (s .l) (count (n .l) (b .l))
+  pub h : Chain ds fs (shifts .h) i (s .h) (count (n .h) (b .h))
+  pub ll : Chain ds fs (shifts .ll) i (s .ll) (count (n .ll) (b .ll))
+  pub lh : Chain ds fs (shifts .lh) i (s .lh) (count (n .lh) (b .lh))
+  pub hl : Chain ds fs (shifts .hl) i (s .hl) (count (n .hl) (b .hl))
+  pub hh : Chain ds fs (shifts .hh) i (s .hh) (count (n .hh) (b .hh))
+
+-- where no pivot is zero, nothing is put in and no flag is raised
+pub none-zero : (s : Seven) (b : Flags) → NoZero s → (s ≡ each divisor s) × (b ≡ notedOn s b)
+unfolding divisor
+none-zero s b z = (rw (z .x, z .l, z .h, z .ll, z .lh, z .hl, z .hh), rw (z .x, z .l, z .h, z .ll, z .lh, z .hl, z .hh))
 
 module _ (ds fs : List Float) (shifts : Seven) where
-  pub chains-start : (p : Chains) → p ≡ firstIn → AllChains ds fs shifts 0 p
-  chains-start p h = rw h (record { x = chain-starts ds fs _; l = chain-starts ds fs _; h = chain-starts ds fs _; ll = chain-starts ds fs _; lh = chain-starts ds fs _; hl = chain-starts ds fs _; hh = chain-starts ds fs _ })
+  pub chains-start : Chains ds fs shifts 0 (record { x = #1; l = #1; h = #1; ll = #1; lh = #1; hl = #1; hh = #1 }) (record { x = 0; l = 0; h = 0; ll = 0; lh = 0; hl = 0; hh = 0 }) (record { x = false; l = false; h = false; ll = false; lh = false; hl = false; hh = false })
+  chains-start = record { x = chain-starts ds fs (shifts .x); l = chain-starts ds fs (shifts .l); h = chain-starts ds fs (shifts .h); ll = chain-starts ds fs (shifts .ll); lh = chain-starts ds fs (shifts .lh); hl = chain-starts ds fs (shifts .hl); hh = chain-starts ds fs (shifts .hh) }
 
-  module _ (i : ℕ) (p : Chains) (c : AllChains ds fs shifts i p) where
-    pub chains-few : (v : Chains) → v ≡ substitutedIn p → i < 300 → Few 300 (v .counts)
-    chains-few v hv h = rw hv (record { x = few (c .x); l = few (c .l); h = few (c .h); ll = few (c .ll); lh = few (c .lh); hl = few (c .hl); hh = few (c .hh) })
+  module _ (i : ℕ) (s : Seven) (n : Numbers) (b : Flags) (c : Chains ds fs shifts i s n b) where
+    pub chains-few : i < 300 → Few 300 n
+    chains-few h = record { x = few (c .x); l = few (c .l); h = few (c .h); ll = few (c .ll); lh = few (c .lh); hl = few (c .hl); hh = few (c .hh) }
       where
-        few : {x : Float} {q : Float} {k : Count} → Chain ds fs x i q k → k .negative < 300
+        few : {x : Float} {p : Float} {k : Count} → Chain ds fs x i p k → k .negative < 300
         few k = let f = k .few in omega arith
 
-    pub chains-on : (v t : Chains) → v ≡ substitutedIn p → t ≡ nextIn (at ds i) (at fs i) shifts v → AllChains ds fs shifts (i + 1) t
+    pub chains-on : (v : Seven) (q : Flags) (t : Seven) (k : Numbers) → v ≡ each divisor s → q ≡ notedOn s b → t ≡ nextPivots (at ds i) (at fs i) shifts v → k ≡ countedOn t n
+        → Chains ds fs shifts (i + 1) t k q
     unfolding nextPivot
-    chains-on v t hv ht = rw (ht, hv) (record { x = chain-on ds fs _ i _ _ (c .x); l = chain-on ds fs _ i _ _ (c .l); h = chain-on ds fs _ i _ _ (c .h); ll = chain-on ds fs _ i _ _ (c .ll); lh = chain-on ds fs _ i _ _ (c .lh); hl = chain-on ds fs _ i _ _ (c .hl); hh = chain-on ds fs _ i _ _ (c .hh) })
+    chains-on v q t k hv hq ht hk = rw (hk, ht, hv, hq) (record { x = chain-on ds fs _ i _ _ (c .x); l = chain-on ds fs _ i _ _ (c .l); h = chain-on ds fs _ i _ _ (c .h); ll = chain-on ds fs _ i _ _ (c .ll); lh = chain-on ds fs _ i _ _ (c .lh); hl = chain-on ds fs _ i _ _ (c .hl); hh = chain-on ds fs _ i _ _ (c .hh) })
 
-    pub chains-end : (entries : ℕ) → i ≡ entries → p .counts ≡ countsAt (negativePivots ds fs entries) shifts
+    pub chains-end : (entries : ℕ) → i ≡ entries → countsOf n b ≡ countsAt (negativePivots ds fs entries) shifts
     chains-end entries h = rw (← (chain-ends ds fs (shifts .x) entries i _ _ h (c .x)), ← (chain-ends ds fs (shifts .l) entries i _ _ h (c .l)), ← (chain-ends ds fs (shifts .h) entries i _ _ h (c .h)), ← (chain-ends ds fs (shifts .ll) entries i _ _ h (c .ll)), ← (chain-ends ds fs (shifts .lh) entries i _ _ h (c .lh)), ← (chain-ends ds fs (shifts .hl) entries i _ _ h (c .hl)), ← (chain-ends ds fs (shifts .hh) entries i _ _ h (c .hh))) refl
