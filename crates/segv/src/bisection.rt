@@ -124,33 +124,49 @@ fn counts_ahead(d: &[f64; 300], f: &[f64; 300], entries: usize, r: Bracket) -> s
 fn counts_after(counts: sturm::Counts, place: usize) -> sturm::Counts
     ensures { λ r. ⌜ r ≡ countsAfter place counts ⌝ }
 {
-    let count = counts.x;
-    let none = sturm::no_count();
-    if count.negative < place {
-        let x = counts.h;
-        let l = counts.hl;
-        let h = counts.hh;
+    let n = counts.negative;
+    let b = counts.substituted;
+    if n.x < place {
         return sturm::Counts {
-            x,
-            l,
-            h,
-            ll: none,
-            lh: none,
-            hl: none,
-            hh: none,
+            negative: sturm::Numbers {
+                x: n.h,
+                l: n.hl,
+                h: n.hh,
+                ll: 0,
+                lh: 0,
+                hl: 0,
+                hh: 0,
+            },
+            substituted: sturm::Flags {
+                x: b.h,
+                l: b.hl,
+                h: b.hh,
+                ll: false,
+                lh: false,
+                hl: false,
+                hh: false,
+            },
         };
     }
-    let x = counts.l;
-    let l = counts.ll;
-    let h = counts.lh;
     sturm::Counts {
-        x,
-        l,
-        h,
-        ll: none,
-        lh: none,
-        hl: none,
-        hh: none,
+        negative: sturm::Numbers {
+            x: n.l,
+            l: n.ll,
+            h: n.lh,
+            ll: 0,
+            lh: 0,
+            hl: 0,
+            hh: 0,
+        },
+        substituted: sturm::Flags {
+            x: b.l,
+            l: b.ll,
+            h: b.lh,
+            ll: false,
+            lh: false,
+            hl: false,
+            hh: false,
+        },
     }
 }
 
@@ -175,7 +191,7 @@ pub(crate) fn bisect(
 {
     let mut r = start;
     let mut left = allowance;
-    let mut counts = sturm::no_counts();
+    let mut counts = sturm::Counts::none();
     // for how many steps the counts are known
     let mut known: u32 = 0;
     while 0 < left {
@@ -189,7 +205,7 @@ pub(crate) fn bisect(
             known = 3;
         }
         let x = r.value;
-        let count = counts.x;
+        let count = counts.at_x();
         r = r.tightened(count, place);
         tighten_others(uppers, lowers, count, place, places, x);
         counts = counts_after(counts, place);

@@ -1,11 +1,14 @@
 -- The negative pivots of a symmetric tridiagonal matrix at a shift: ds is the diagonal, fs has the squares of the entries beside it.
 -- In exact arithmetic, where no pivot is zero, there are as many as characteristic values below the shift; nothing of the kind is claimed of the rounded ones. Definitions only.
 use Prim.Native.Nat.{ℕ, zero, suc, _+_}
-use mathlib.Core.Bool.{false, cond, _||_}
+use mathlib.Core.Bool.{Bool, false, cond, _||_}
 use mathlib.Core.List.{List}
 use lib.Ieee.{Float, eq, lt}
 use Rattle.arith.specs.Double.{_⊖_, _⊘_, #0, #1, #1e-30, at}
 use Rattle.sturm.specs.declared.pivots.Count.{Count}
+
+abbrev pub count : ℕ → Bool → Count
+count n b = record { negative = n; substituted = b }
 
 -- the pivot after some entries, and the count up to it: how many pivots were below zero, and was 1e-30 put in
 pub record Pivots : Type 0 where
@@ -22,11 +25,11 @@ pivot d f s shift = (d ⊖ f ⊘ s) ⊖ shift
 
 -- a yes where 1e-30 is put in for the pivot s
 abbrev pub noteZero : Float → Count → Count
-noteZero s k = record { negative = k .negative; substituted = eq s #0 || k .substituted }
+noteZero s k = count (k .negative) (eq s #0 || k .substituted)
 
 -- one more where the pivot s is below zero
 abbrev pub countNegative : Float → Count → Count
-countNegative s k = record { negative = cond (lt s #0) (k .negative + 1) (k .negative); substituted = k .substituted }
+countNegative s k = count (cond (lt s #0) (k .negative + 1) (k .negative)) (k .substituted)
 
 -- at one more entry: 1e-30 first, then the pivot. So a zero pivot of the last entry, which nothing is divided by, is no yes
 unfoldable pub nextPivot : Float → Float → Float → Pivots → Pivots
@@ -34,12 +37,9 @@ nextPivot d f shift p =
     let s = pivot d f (divisor (p .last)) shift in
     record { last = s; count = countNegative s (noteZero (p .last) (p .count)) }
 
-abbrev pub noCount : Count
-noCount = record { negative = 0; substituted = false }
-
 -- after the first i entries; before the first the pivot is 1
 unfoldable pub pivotsAt : List Float → List Float → Float → ℕ → Pivots
-pivotsAt ds fs shift zero = record { last = #1; count = noCount }
+pivotsAt ds fs shift zero = record { last = #1; count = count 0 false }
 pivotsAt ds fs shift (suc i) = nextPivot (at ds i) (at fs i) shift (pivotsAt ds fs shift i)
 
 -- the count over the first `entries` entries

@@ -8,8 +8,8 @@ ghost use Prim.Native.Nat.{_+_, _<_, _≤_};
 ghost use lib.Ieee.{lt};
 ghost use Rattle.arith.specs.Double.{#0};
 ghost use Rattle.sturm.specs.Pivots as Pivots;
-ghost use Rattle.sturm.specs.Pivots.{noCount, negativePivots};
-ghost use Rattle.sturm.specs.Inside.SevenShifts.{each, nextPivots, countsAt, noCounts, NoZero, Few, countedOn, notedOn, countsOf};
+ghost use Rattle.sturm.specs.Pivots.{negativePivots};
+ghost use Rattle.sturm.specs.Inside.SevenShifts.{each, nextPivots, countsAt, noNumbers, noFlags, noCounts, countX, NoZero, Few, countedOn};
 
 // The count at a shift.
 pub struct Count {
@@ -32,37 +32,32 @@ pub struct Seven {
     pub hh: f64,
 }
 
-// A count for each of them.
+// A number for each of them, and a yes or no.
+pub struct Numbers {
+    pub x: usize,
+    pub l: usize,
+    pub h: usize,
+    pub ll: usize,
+    pub lh: usize,
+    pub hl: usize,
+    pub hh: usize,
+}
+
+pub struct Flags {
+    pub x: bool,
+    pub l: bool,
+    pub h: bool,
+    pub ll: bool,
+    pub lh: bool,
+    pub hl: bool,
+    pub hh: bool,
+}
+
+// A count for each of them: the numbers together and the flags together, since the compiler keeps
+// several numbers in a register only where they lie side by side.
 pub struct Counts {
-    pub x: Count,
-    pub l: Count,
-    pub h: Count,
-    pub ll: Count,
-    pub lh: Count,
-    pub hl: Count,
-    pub hh: Count,
-}
-
-// The two parts of the counts so far. The loop carries them apart: a copy of a `Count` copies the
-// bytes between its fields too, one by one in the compiled code.
-struct Numbers {
-    x: usize,
-    l: usize,
-    h: usize,
-    ll: usize,
-    lh: usize,
-    hl: usize,
-    hh: usize,
-}
-
-struct Flags {
-    x: bool,
-    l: bool,
-    h: bool,
-    ll: bool,
-    lh: bool,
-    hl: bool,
-    hh: bool,
+    pub negative: Numbers,
+    pub substituted: Flags,
 }
 
 // A zero pivot would be divided by, so 1e-30 stands in for it.
@@ -165,90 +160,89 @@ impl Numbers {
     }
 }
 
-impl Flags {
-    // With a yes where 1e-30 is put in for a pivot of s.
-    fn noted(self, s: Seven) -> Flags
-        ensures { λ r. ⌜ r ≡ notedOn s self ⌝ }
+fn no_numbers() -> Numbers
+    ensures { λ r. ⌜ r ≡ noNumbers ⌝ }
+{
+    Numbers {
+        x: 0,
+        l: 0,
+        h: 0,
+        ll: 0,
+        lh: 0,
+        hl: 0,
+        hh: 0,
+    }
+}
+
+fn no_flags() -> Flags
+    ensures { λ r. ⌜ r ≡ noFlags ⌝ }
+{
+    Flags {
+        x: false,
+        l: false,
+        h: false,
+        ll: false,
+        lh: false,
+        hl: false,
+        hh: false,
+    }
+}
+
+impl Counts {
+    // Before any pivot.
+    pub fn none() -> Counts
+        ensures { λ r. ⌜ r ≡ noCounts ⌝ }
     {
-        Flags {
-            x: (s.x == 0.0) | self.x,
-            l: (s.l == 0.0) | self.l,
-            h: (s.h == 0.0) | self.h,
-            ll: (s.ll == 0.0) | self.ll,
-            lh: (s.lh == 0.0) | self.lh,
-            hl: (s.hl == 0.0) | self.hl,
-            hh: (s.hh == 0.0) | self.hh,
+        Counts {
+            negative: no_numbers(),
+            substituted: no_flags(),
+        }
+    }
+
+    // The count at the shift x.
+    pub fn at_x(self) -> Count
+        ensures { λ r. ⌜ r ≡ countX self ⌝ }
+    {
+        Count {
+            negative: self.negative.x,
+            substituted: self.substituted.x,
         }
     }
 }
 
-pub fn no_count() -> Count
-    ensures { λ r. ⌜ r ≡ noCount ⌝ }
+// Whether 1e-30 is put in during the count at a shift.
+fn substitutes(d: &[f64; 300], f: &[f64; 300], entries: usize, shift: f64) -> bool
+    requires { ⌜ entries ≤ 300 ⌝ }
+    ensures { λ r. ⌜ r ≡ negativePivots (now (d .entry)) (now (f .entry)) entries shift .substituted ⌝ }
 {
-    Count {
-        negative: 0,
-        substituted: false,
+    let mut s = 1.0;
+    let mut substituted = false;
+    let mut i: usize = 0;
+    while i < entries {
+        substituted = (s == 0.0) | substituted;
+        s = pivot(d[i], f[i], divisor(s), shift);
+        i = i + 1;
+    }
+    substituted
+}
+
+fn substitutes_at(d: &[f64; 300], f: &[f64; 300], entries: usize, shifts: Seven) -> Flags
+    requires { ⌜ entries ≤ 300 ⌝ }
+    ensures { λ r. ⌜ r ≡ countsAt (negativePivots (now (d .entry)) (now (f .entry)) entries) shifts .substituted ⌝ }
+{
+    Flags {
+        x: substitutes(d, f, entries, shifts.x),
+        l: substitutes(d, f, entries, shifts.l),
+        h: substitutes(d, f, entries, shifts.h),
+        ll: substitutes(d, f, entries, shifts.ll),
+        lh: substitutes(d, f, entries, shifts.lh),
+        hl: substitutes(d, f, entries, shifts.hl),
+        hh: substitutes(d, f, entries, shifts.hh),
     }
 }
 
-pub fn no_counts() -> Counts
-    ensures { λ r. ⌜ r ≡ noCounts ⌝ }
-{
-    let none = no_count();
-    Counts {
-        x: none,
-        l: none,
-        h: none,
-        ll: none,
-        lh: none,
-        hl: none,
-        hh: none,
-    }
-}
-
-fn counts_of(negative: Numbers, substituted: Flags) -> Counts
-    ensures { λ r. ⌜ r ≡ countsOf negative substituted ⌝ }
-{
-    let x = Count {
-        negative: negative.x,
-        substituted: substituted.x,
-    };
-    let l = Count {
-        negative: negative.l,
-        substituted: substituted.l,
-    };
-    let h = Count {
-        negative: negative.h,
-        substituted: substituted.h,
-    };
-    let ll = Count {
-        negative: negative.ll,
-        substituted: substituted.ll,
-    };
-    let lh = Count {
-        negative: negative.lh,
-        substituted: substituted.lh,
-    };
-    let hl = Count {
-        negative: negative.hl,
-        substituted: substituted.hl,
-    };
-    let hh = Count {
-        negative: negative.hh,
-        substituted: substituted.hh,
-    };
-    Counts {
-        x,
-        l,
-        h,
-        ll,
-        lh,
-        hl,
-        hh,
-    }
-}
-
-// The count over the first `entries` entries, at each shift.
+// The count over the first `entries` entries, at each shift. A zero pivot is rare, so the loop only
+// tells whether there was one at any shift; where there was, each shift is asked for its own.
 pub fn negative_pivots(d: &[f64; 300], f: &[f64; 300], entries: usize, shifts: Seven) -> Counts
     requires { ⌜ entries ≤ 300 ⌝ }
     ensures { λ r. ⌜ r ≡ countsAt (negativePivots (now (d .entry)) (now (f .entry)) entries) shifts ⌝ }
@@ -262,35 +256,27 @@ pub fn negative_pivots(d: &[f64; 300], f: &[f64; 300], entries: usize, shifts: S
         hl: 1.0,
         hh: 1.0,
     };
-    let mut negative = Numbers {
-        x: 0,
-        l: 0,
-        h: 0,
-        ll: 0,
-        lh: 0,
-        hl: 0,
-        hh: 0,
-    };
-    let mut substituted = Flags {
-        x: false,
-        l: false,
-        h: false,
-        ll: false,
-        lh: false,
-        hl: false,
-        hh: false,
-    };
+    let mut negative = no_numbers();
+    let mut zero_met = false;
     let mut i: usize = 0;
     while i < entries {
-        // One branch for all seven keeps the substitute, which is rarely needed, from delaying every
-        // division.
+        // One branch for all seven keeps the substitute from delaying every division.
         if s.any_zero() {
-            substituted = substituted.noted(s);
+            zero_met = true;
             s = s.divisors();
         }
         s = s.next(d[i], f[i], shifts);
         negative = negative.counted(s);
         i = i + 1;
     }
-    counts_of(negative, substituted)
+    if zero_met {
+        return Counts {
+            negative,
+            substituted: substitutes_at(d, f, entries, shifts),
+        };
+    }
+    Counts {
+        negative,
+        substituted: no_flags(),
+    }
 }

@@ -1,82 +1,100 @@
 -- The chain of pivots at one shift, entry by entry, and the seven that the loop of `negative_pivots` carries. Assumes nothing.
 use Prim.Native.Nat.{ℕ, _+_, _<_, _≤_}
-use mathlib.Core.Path.{_≡_, refl, ap}
+use mathlib.Core.Path.{_≡_, refl, sym, ap, _∙_}
 use mathlib.Core.Bool.{Bool, true, false, cond}
 use mathlib.Core.List.{List}
 use native.Mathlib.Omega.{arith}
 use native.Mathlib.Numerals.{add-one}
-use lib.Ieee.{Float, lt}
+use lib.Ieee.{Float, eq, lt}
 use Rattle.arith.specs.Double.{#0, #1, at}
-use Rattle.sturm.specs.Pivots.{Pivots, divisor, nextPivot, pivotsAt, negativePivots, noCount}
-use Rattle.sturm.specs.Inside.SevenShifts.{each, countsAt, countsOf, nextPivots, countedOn, notedOn, NoZero, Few}
-use Rattle.sturm.specs.declared.pivots.Count.{Count}
-use Rattle.sturm.specs.declared.pivots.Seven.{Seven}
+use Rattle.sturm.specs.Pivots.{Pivots, divisor, pivot, nextPivot, pivotsAt, negativePivots}
+use Rattle.sturm.specs.Inside.SevenShifts.{each, countsAt, noNumbers, noFlags, nextPivots, countedOn, NoZero, Few}
 use Rattle.sturm.specs.declared.pivots.Numbers.{Numbers}
 use Rattle.sturm.specs.declared.pivots.Flags.{Flags}
+use Rattle.sturm.specs.declared.pivots.Seven.{Seven}
 
 -- ---- one chain
 
--- its pivot and its count after i entries are the definition's
-pub record Chain (ds fs : List Float) (shift : Float) (i : ℕ) (last : Float) (count : Count) : Type 0 where
-  pub few : count .negative ≤ i
-  pub is : record { last = last; count = count } ≡ pivotsAt ds fs shift i
+-- After i entries its pivot and its number are the definition's. `met` may be true without need, where another chain met a zero.
+pub record Chain (ds fs : List Float) (shift : Float) (i : ℕ) (last : Float) (negative : ℕ) (met : Bool) : Type 0 where
+  pub few : negative ≤ i
+  pub last-is : last ≡ pivotsAt ds fs shift i .last
+  pub number-is : negative ≡ pivotsAt ds fs shift i .count .negative
+  pub none-met : met ≡ false → pivotsAt ds fs shift i .count .substituted ≡ false
 
 module _ (ds fs : List Float) (shift : Float) where
-  chain-starts : Chain ds fs shift 0 #1 noCount
+  chain-starts : (met : Bool) → Chain ds fs shift 0 #1 0 met
   unfolding pivotsAt
-  chain-starts = record { few = omega arith; is = refl }
+  chain-starts met = record { few = omega arith; last-is = refl; number-is = refl; none-met = λ h. refl }
 
   at-most : (b : Bool) (n i : ℕ) → n ≤ i → cond b (n + 1) n ≤ i + 1
   at-most true n i h = omega arith
   at-most false n i h = omega arith
 
-  chain-on : (i : ℕ) (s : Float) (k : Count) → Chain ds fs shift i s k
-      → let p = nextPivot (at ds i) (at fs i) shift (record { last = s; count = k }) in Chain ds fs shift (i + 1) (p .last) (p .count)
+  chain-on : (i : ℕ) (s : Float) (n : ℕ) (met : Bool) → Chain ds fs shift i s n met
+      → (met′ : Bool) → (met′ ≡ false → (met ≡ false) × (eq s #0 ≡ false))
+      → let t = pivot (at ds i) (at fs i) (divisor s) shift in Chain ds fs shift (i + 1) t (cond (lt t #0) (n + 1) n) met′
   unfolding pivotsAt nextPivot
-  chain-on i s k c =
+  chain-on i s n met c met′ none =
       record {
-        few = at-most (lt _ #0) (k .negative) i (c .few);
-        is = rw (add-one i) (ap (nextPivot (at ds i) (at fs i) shift) (c .is));
+        few = at-most (lt _ #0) n i (c .few);
+        last-is = rw (add-one i, ← (c .last-is));
+        number-is = rw (add-one i, ← (c .last-is), ← (c .number-is));
+        none-met = λ h. let q = none h in rw (add-one i, ← (c .last-is), q .1) (c .none-met (q .0));
       }
-
-  chain-ends : (entries i : ℕ) (s : Float) (k : Count) → i ≡ entries → Chain ds fs shift i s k → k ≡ negativePivots ds fs entries shift
-  unfolding negativePivots
-  chain-ends entries i s k h c = rw (← h) (ap (λ (p : Pivots). p .count) (c .is))
 
 -- ---- the seven
 
-abbrev count : ℕ → Bool → Count
-count n b = record { negative = n; substituted = b }
+pub record Chains (ds fs : List Float) (shifts : Seven) (i : ℕ) (s : Seven) (n : Numbers) (met : Bool) : Type 0 where
+  pub x : Chain ds fs (shifts .x) i (s .x) (n .x) met
+  pub l : Chain ds fs (shifts .l) i (s .l) (n .l) met
+  pub h : Chain ds fs (shifts .h) i (s .h) (n .h) met
+  pub ll : Chain ds fs (shifts .ll) i (s .ll) (n .ll) met
+  pub lh : Chain ds fs (shifts .lh) i (s .lh) (n .lh) met
+  pub hl : Chain ds fs (shifts .hl) i (s .hl) (n .hl) met
+  pub hh : Chain ds fs (shifts .hh) i (s .hh) (n .hh) met
 
-pub record Chains (ds fs : List Float) (shifts : Seven) (i : ℕ) (s : Seven) (n : Numbers) (b : Flags) : Type 0 where
-  pub x : Chain ds fs (shifts .x) i (s .x) (count (n .x) (b .x))
-  pub l : Chain ds fs (shifts .l) i (s .l) (count (n .l) (b .l))
-  pub h : Chain ds fs (shifts .h) i (s .h) (count (n .h) (b .h))
-  pub ll : Chain ds fs (shifts .ll) i (s .ll) (count (n .ll) (b .ll))
-  pub lh : Chain ds fs (shifts .lh) i (s .lh) (count (n .lh) (b .lh))
-  pub hl : Chain ds fs (shifts .hl) i (s .hl) (count (n .hl) (b .hl))
-  pub hh : Chain ds fs (shifts .hh) i (s .hh) (count (n .hh) (b .hh))
-
--- where no pivot is zero, nothing is put in and no flag is raised
-pub none-zero : (s : Seven) (b : Flags) → NoZero s → (s ≡ each divisor s) × (b ≡ notedOn s b)
+-- where no pivot is zero, nothing is put in
+pub no-zero : (s : Seven) → NoZero s → s ≡ each divisor s
 unfolding divisor
-none-zero s b z = (rw (z .x, z .l, z .h, z .ll, z .lh, z .hl, z .hh), rw (z .x, z .l, z .h, z .ll, z .lh, z .hl, z .hh))
+no-zero s z = rw (z .x, z .l, z .h, z .ll, z .lh, z .hl, z .hh)
 
 module _ (ds fs : List Float) (shifts : Seven) where
-  pub chains-start : Chains ds fs shifts 0 (record { x = #1; l = #1; h = #1; ll = #1; lh = #1; hl = #1; hh = #1 }) (record { x = 0; l = 0; h = 0; ll = 0; lh = 0; hl = 0; hh = 0 }) (record { x = false; l = false; h = false; ll = false; lh = false; hl = false; hh = false })
-  chains-start = record { x = chain-starts ds fs (shifts .x); l = chain-starts ds fs (shifts .l); h = chain-starts ds fs (shifts .h); ll = chain-starts ds fs (shifts .ll); lh = chain-starts ds fs (shifts .lh); hl = chain-starts ds fs (shifts .hl); hh = chain-starts ds fs (shifts .hh) }
+  pub chains-start : (n : Numbers) → n ≡ noNumbers → Chains ds fs shifts 0 (record { x = #1; l = #1; h = #1; ll = #1; lh = #1; hl = #1; hh = #1 }) n false
+  chains-start n hn = rw hn (record { x = chain-starts ds fs (shifts .x) false; l = chain-starts ds fs (shifts .l) false; h = chain-starts ds fs (shifts .h) false; ll = chain-starts ds fs (shifts .ll) false; lh = chain-starts ds fs (shifts .lh) false; hl = chain-starts ds fs (shifts .hl) false; hh = chain-starts ds fs (shifts .hh) false })
 
-  module _ (i : ℕ) (s : Seven) (n : Numbers) (b : Flags) (c : Chains ds fs shifts i s n b) where
+  module _ (i : ℕ) (s : Seven) (n : Numbers) (met : Bool) (c : Chains ds fs shifts i s n met) where
     pub chains-few : i < 300 → Few 300 n
     chains-few h = record { x = few (c .x); l = few (c .l); h = few (c .h); ll = few (c .ll); lh = few (c .lh); hl = few (c .hl); hh = few (c .hh) }
       where
-        few : {x : Float} {p : Float} {k : Count} → Chain ds fs x i p k → k .negative < 300
+        few : {x : Float} {p : Float} {k : ℕ} → Chain ds fs x i p k met → k < 300
         few k = let f = k .few in omega arith
 
-    pub chains-on : (v : Seven) (q : Flags) (t : Seven) (k : Numbers) → v ≡ each divisor s → q ≡ notedOn s b → t ≡ nextPivots (at ds i) (at fs i) shifts v → k ≡ countedOn t n
-        → Chains ds fs shifts (i + 1) t k q
-    unfolding nextPivot
-    chains-on v q t k hv hq ht hk = rw (hk, ht, hv, hq) (record { x = chain-on ds fs _ i _ _ (c .x); l = chain-on ds fs _ i _ _ (c .l); h = chain-on ds fs _ i _ _ (c .h); ll = chain-on ds fs _ i _ _ (c .ll); lh = chain-on ds fs _ i _ _ (c .lh); hl = chain-on ds fs _ i _ _ (c .hl); hh = chain-on ds fs _ i _ _ (c .hh) })
+    pub chains-on : (v : Seven) (met′ : Bool) (t : Seven) (k : Numbers) → v ≡ each divisor s → (met′ ≡ false → (met ≡ false) × NoZero s) → t ≡ nextPivots (at ds i) (at fs i) shifts v
+        → k ≡ countedOn t n → Chains ds fs shifts (i + 1) t k met′
+    chains-on v met′ t k hv none ht hk =
+        rw (hk, ht, hv) (record {
+          x = chain-on ds fs (shifts .x) i (s .x) (n .x) met (c .x) met′ (λ h. let q = none h in (q .0, q .1 .x));
+          l = chain-on ds fs (shifts .l) i (s .l) (n .l) met (c .l) met′ (λ h. let q = none h in (q .0, q .1 .l));
+          h = chain-on ds fs (shifts .h) i (s .h) (n .h) met (c .h) met′ (λ h. let q = none h in (q .0, q .1 .h));
+          ll = chain-on ds fs (shifts .ll) i (s .ll) (n .ll) met (c .ll) met′ (λ h. let q = none h in (q .0, q .1 .ll));
+          lh = chain-on ds fs (shifts .lh) i (s .lh) (n .lh) met (c .lh) met′ (λ h. let q = none h in (q .0, q .1 .lh));
+          hl = chain-on ds fs (shifts .hl) i (s .hl) (n .hl) met (c .hl) met′ (λ h. let q = none h in (q .0, q .1 .hl));
+          hh = chain-on ds fs (shifts .hh) i (s .hh) (n .hh) met (c .hh) met′ (λ h. let q = none h in (q .0, q .1 .hh));
+        })
 
-    pub chains-end : (entries : ℕ) → i ≡ entries → countsOf n b ≡ countsAt (negativePivots ds fs entries) shifts
-    chains-end entries h = rw (← (chain-ends ds fs (shifts .x) entries i _ _ h (c .x)), ← (chain-ends ds fs (shifts .l) entries i _ _ h (c .l)), ← (chain-ends ds fs (shifts .h) entries i _ _ h (c .h)), ← (chain-ends ds fs (shifts .ll) entries i _ _ h (c .ll)), ← (chain-ends ds fs (shifts .lh) entries i _ _ h (c .lh)), ← (chain-ends ds fs (shifts .hl) entries i _ _ h (c .hl)), ← (chain-ends ds fs (shifts .hh) entries i _ _ h (c .hh))) refl
+    module _ (entries : ℕ) (h : i ≡ entries) where
+      abbrev at-each : Flags
+      at-each = record { x = negativePivots ds fs entries (shifts .x) .substituted; l = negativePivots ds fs entries (shifts .l) .substituted; h = negativePivots ds fs entries (shifts .h) .substituted; ll = negativePivots ds fs entries (shifts .ll) .substituted; lh = negativePivots ds fs entries (shifts .lh) .substituted; hl = negativePivots ds fs entries (shifts .hl) .substituted; hh = negativePivots ds fs entries (shifts .hh) .substituted }
+
+      numbers : n ≡ record { x = negativePivots ds fs entries (shifts .x) .negative; l = negativePivots ds fs entries (shifts .l) .negative; h = negativePivots ds fs entries (shifts .h) .negative; ll = negativePivots ds fs entries (shifts .ll) .negative; lh = negativePivots ds fs entries (shifts .lh) .negative; hl = negativePivots ds fs entries (shifts .hl) .negative; hh = negativePivots ds fs entries (shifts .hh) .negative }
+      unfolding negativePivots
+      numbers = rw (← h) (rw (← (c .x .number-is), ← (c .l .number-is), ← (c .h .number-is), ← (c .ll .number-is), ← (c .lh .number-is), ← (c .hl .number-is), ← (c .hh .number-is)) refl)
+
+      pub chains-end : (b : Flags) → b ≡ at-each → record { negative = n; substituted = b } ≡ countsAt (negativePivots ds fs entries) shifts
+      chains-end b hb = rw (numbers, hb)
+
+      -- no chain met a zero
+      pub none-at-each : met ≡ false → (b : Flags) → b ≡ noFlags → b ≡ at-each
+      unfolding negativePivots
+      none-at-each m b hb = rw (← h) (rw (hb, c .x .none-met m, c .l .none-met m, c .h .none-met m, c .ll .none-met m, c .lh .none-met m, c .hl .none-met m, c .hh .none-met m) refl)

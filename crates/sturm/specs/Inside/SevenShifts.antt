@@ -1,10 +1,10 @@
 -- Doubles and counts at seven shifts, one for one. Definitions only.
 use Prim.Native.Nat.{ℕ, _+_, _<_}
 use mathlib.Core.Path.{_≡_}
-use mathlib.Core.Bool.{false, cond, _||_}
+use mathlib.Core.Bool.{false, cond}
 use lib.Ieee.{Float, eq, lt}
 use Rattle.arith.specs.Double.{#0}
-use Rattle.sturm.specs.Pivots.{pivot, noCount}
+use Rattle.sturm.specs.Pivots.{pivot, count}
 use Rattle.sturm.specs.declared.pivots.Count.{Count}
 use Rattle.sturm.specs.declared.pivots.Seven.{Seven}
 use Rattle.sturm.specs.declared.pivots.Counts.{Counts}
@@ -16,10 +16,20 @@ each g s = record { x = g (s .x); l = g (s .l); h = g (s .h); ll = g (s .ll); lh
 
 -- the count that g gives at each
 abbrev pub countsAt : (Float → Count) → Seven → Counts
-countsAt g s = record { x = g (s .x); l = g (s .l); h = g (s .h); ll = g (s .ll); lh = g (s .lh); hl = g (s .hl); hh = g (s .hh) }
+countsAt g s = record { negative = record { x = g (s .x) .negative; l = g (s .l) .negative; h = g (s .h) .negative; ll = g (s .ll) .negative; lh = g (s .lh) .negative; hl = g (s .hl) .negative; hh = g (s .hh) .negative }; substituted = record { x = g (s .x) .substituted; l = g (s .l) .substituted; h = g (s .h) .substituted; ll = g (s .ll) .substituted; lh = g (s .lh) .substituted; hl = g (s .hl) .substituted; hh = g (s .hh) .substituted } }
+
+-- the count at x
+abbrev pub countX : Counts → Count
+countX k = count (k .negative .x) (k .substituted .x)
+
+abbrev pub noNumbers : Numbers
+noNumbers = record { x = 0; l = 0; h = 0; ll = 0; lh = 0; hl = 0; hh = 0 }
+
+abbrev pub noFlags : Flags
+noFlags = record { x = false; l = false; h = false; ll = false; lh = false; hl = false; hh = false }
 
 abbrev pub noCounts : Counts
-noCounts = record { x = noCount; l = noCount; h = noCount; ll = noCount; lh = noCount; hl = noCount; hh = noCount }
+noCounts = record { negative = noNumbers; substituted = noFlags }
 
 -- at an entry d with f beside it, by these divisors
 abbrev pub nextPivots : Float → Float → Seven → Seven → Seven
@@ -28,13 +38,6 @@ nextPivots d f shifts s = record { x = pivot d f (s .x) (shifts .x); l = pivot d
 -- one more where a pivot is below zero
 abbrev pub countedOn : Seven → Numbers → Numbers
 countedOn s n = record { x = cond (lt (s .x) #0) (n .x + 1) (n .x); l = cond (lt (s .l) #0) (n .l + 1) (n .l); h = cond (lt (s .h) #0) (n .h + 1) (n .h); ll = cond (lt (s .ll) #0) (n .ll + 1) (n .ll); lh = cond (lt (s .lh) #0) (n .lh + 1) (n .lh); hl = cond (lt (s .hl) #0) (n .hl + 1) (n .hl); hh = cond (lt (s .hh) #0) (n .hh + 1) (n .hh) }
-
--- a yes where a pivot is zero
-abbrev pub notedOn : Seven → Flags → Flags
-notedOn s b = record { x = eq (s .x) #0 || b .x; l = eq (s .l) #0 || b .l; h = eq (s .h) #0 || b .h; ll = eq (s .ll) #0 || b .ll; lh = eq (s .lh) #0 || b .lh; hl = eq (s .hl) #0 || b .hl; hh = eq (s .hh) #0 || b .hh }
-
-abbrev pub countsOf : Numbers → Flags → Counts
-countsOf n b = record { x = record { negative = n .x; substituted = b .x }; l = record { negative = n .l; substituted = b .l }; h = record { negative = n .h; substituted = b .h }; ll = record { negative = n .ll; substituted = b .ll }; lh = record { negative = n .lh; substituted = b .lh }; hl = record { negative = n .hl; substituted = b .hl }; hh = record { negative = n .hh; substituted = b .hh } }
 
 pub record NoZero (s : Seven) : Type 0 where
   pub x : eq (s .x) #0 ≡ false

@@ -21,8 +21,8 @@ Inv-loop d f entries places place allowance uppers₀ lowers₀ r₀ left₀ cou
 abbrev μ-loop : tie.MeasureT-loop
 μ-loop d f entries places place allowance uppers₀ lowers₀ r₀ left₀ counts₀ known₀ uppers lowers r left counts known = left
 
-no-counts-requires : tie.Need-no-counts-requires Inv-loop μ-loop
-no-counts-requires c κs = search needs
+none-requires : tie.Need-none-requires Inv-loop μ-loop
+none-requires c κs = search needs
 
 loop-holds : tie.Need-loop-holds Inv-loop μ-loop
 loop-holds c = (omega arith, refl, none-known _ _ _ _)
@@ -56,6 +56,9 @@ recounted c =
     ⊎-elim (λ w. let e = w .3 in (omega arith, rw (w .2, w .3) (three-known _ (l .r) (h .result) _ (h .ensures) (w .1 .ensures))))
     (λ w. let e = w .2 in let f = w .0 .left in (omega arith, rw (w .1, w .2) (l .inv .2))) (c .if2 .came)
 
+at-x-requires : tie.Need-at-x-requires Inv-loop μ-loop
+at-x-requires c κs = search needs
+
 tightened-requires : tie.Need-tightened-requires Inv-loop μ-loop
 tightened-requires c κs = search needs
 
@@ -78,11 +81,12 @@ loop-again c =
     let h = j .before .before .before .with-midpoint in
     let t = c .before .before .before .before .before .tightened in
     let o = c .before .before .tighten-others in
+    let a = c .before .before .before .before .before .before .at-x in
     let k = recounted j in
     let s = laws.steps-on _ _ (l .r) (h .result) (t .result) (h .ensures) (t .ensures) in
-    let n = count-known _ _ (l .r) (h .result) _ (h .ensures) (k .1) (k .0) in
+    let n = count-known _ _ (l .r) (h .result) _ (h .ensures) (k .1) _ (a .ensures) (k .0) in
     let m = laws.on _ _ _ _ _ (l .left) (l .left - 1) (l .r) (h .result) (ends (l .uppers) (l .lowers)) _ _ (t .result) _ (omega arith) (h .ensures) (j .before .before .converged .ensures) (j .before .if1 .left) n (t .ensures) (laws.tightened _ _ _ _ _ _ _ (o .ensures .0) (o .ensures .1)) in
-    (omega (arith, s), sym m ∙ l .inv .1, known-after _ _ (l .r) (h .result) _ (h .ensures) (k .1) _ (t .result) _ (t .ensures) (c .before .counts-after .ensures))
+    (omega (arith, s), sym m ∙ l .inv .1, known-after _ _ (l .r) (h .result) _ (h .ensures) (k .1) _ _ (t .result) _ (a .ensures) (t .ensures) (c .before .counts-after .ensures))
 
 returns-2 : tie.Need-returns-2 Inv-loop μ-loop
 returns-2 c =
@@ -96,13 +100,14 @@ bisect-spec =
     (tie.spec
     Inv-loop
     μ-loop
-    no-counts-requires
+    none-requires
     loop-holds
     sub-left
     with-midpoint-requires
     converged-requires
     returns
     counts-ahead-requires
+    at-x-requires
     tightened-requires
     tighten-others-requires
     counts-after-requires
