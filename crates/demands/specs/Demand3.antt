@@ -31,7 +31,7 @@ handed l j =
 -- Whatever m, n, allowance and c of at least 1e-10 an accepted row of operation 1 or 2 has, each characteristic value it hands out is the rounded midpoint of the lower and the upper
 -- handed out beside it. The rounded gap of these two over the value, rounded, is below 1e-14 in size. At the lower, document 01 counts fewer than k negative pivots, or it is the lower
 -- Gershgorin bound; at the upper, k or more, or it is the upper Gershgorin bound; k is the value's place among modes of its parity, j/2 + 1 at offset j. (`Sound` in crate `segv` has these
--- facts one by one, and two on the step number: it is at least 1 and at most the allowance.)
+-- facts one by one, two on the step number, which is at least 1 and at most the allowance, and what the flag is: yes where 1e-30 was put in during a count made for this place.)
 abbrev pub Demand3Rows : Type 0
 Demand3Rows =
     (kind : Kind) (x : Mode) (allowance : ℕ) (l : Slices)

@@ -1,6 +1,6 @@
 -- Every bracket that an accepted row hands out is sound.
 use Prim.Native.Nat.{ℕ, zero, suc, _+_, _-_, _/_, _%_, _≤_, _<_}
-use mathlib.Core.Path.{_≡_, refl, ap, _∙_}
+use mathlib.Core.Path.{_≡_, refl, sym, ap, _∙_}
 use mathlib.Core.Logic.{inl, inr}
 use mathlib.Core.Bool.{Bool, true, false, cond, _||_}
 use mathlib.Core.List.{List, [], _∷_}
@@ -26,7 +26,7 @@ use Rattle.segv.specs.declared.families.Family.{Family}
 use Rattle.segv.specs.Bisection.{Ends, Outcome, bisection, withMidpoint, converged, tighten, tightenOthers, tightenCounted}
 use Rattle.segv.specs.Families.{firstBelow, raised, openedAt, familyFrom, onSearch, bisectedFamily, blankBracket, familyOf, bothFamilies, eitherStopped}
 use Rattle.segv.specs.Row.{noBracket, modeAt}
-use Rattle.segv.specs.Sound.{Below, Above, Sound, SoundIn}
+use Rattle.segv.specs.Sound.{Below, Above, countedAt, anySubstituted, OwnCounts, Sound, SoundIn}
 
 -- ---- picks and stores
 
@@ -133,6 +133,40 @@ module _ (ds fs : List Float) (entries : ℕ) (bounds : Bounds) (allowance : ℕ
         high = cases (Hi number) (ltb (negativePivots ds fs entries (h .value) .negative) number) _ _ (λ _. o .high) (λ e. inr (ltb-false _ _ e));
       }
 
+  -- ---- the place's own counts
+
+  abbrev Shifts : ℕ → ℕ → Bracket → List Float
+  Shifts = countedAt ds fs entries
+
+  abbrev Any : List Float → Bool
+  Any = anySubstituted ds fs entries
+
+  -- with what is left to count they are all that are made from the first bracket on
+  record Counting (number : ℕ) (first : Bracket) (left : ℕ) (r : Bracket) : Type 0 where
+    steps : r .steps + length (Shifts number left r) ≡ length (Shifts number allowance first)
+    flag : (r .substituted || Any (Shifts number left r)) ≡ Any (Shifts number allowance first)
+
+  or-none : (b : Bool) → (b || false) ≡ b
+  or-none true = refl
+  or-none false = refl
+
+  or-assoc : (a b c : Bool) → (a || b || c) ≡ (a || (b || c))
+  or-assoc true b c = refl
+  or-assoc false b c = refl
+
+  module _ (number : ℕ) (first : Bracket) (left : ℕ) (r : Bracket) (c : Counting number first (suc left) r) where
+    all-counted : converged (withMidpoint r) ≡ true → OwnCounts ds fs entries allowance number (withMidpoint r)
+    unfolding countedAt anySubstituted withMidpoint
+    all-counted e =
+        let k : r .steps + 0 ≡ length (Shifts number allowance first) = rw e at (c .steps) in
+        record { opened = first; one-a-step = omega arith; flag = sym (or-none (r .substituted)) ∙ rw e at (c .flag) }
+
+    counting-on : converged (withMidpoint r) ≡ false → Counting number first left (tighten (negativePivots ds fs entries (withMidpoint r .value)) number (withMidpoint r))
+    unfolding countedAt anySubstituted withMidpoint tighten
+    counting-on e =
+        let k : r .steps + suc (length (Shifts number left _)) ≡ length (Shifts number allowance first) = rw e at (c .steps) in
+        record { steps = omega arith; flag = or-assoc (r .substituted) _ _ ∙ rw e at (c .flag) }
+
   -- ---- the bisection
 
   SoundFound : ℕ → Search → Type 0
@@ -143,13 +177,14 @@ module _ (ds fs : List Float) (entries : ℕ) (bounds : Bounds) (allowance : ℕ
     found : SoundFound number (b .found)
     left : Good places (b .ends)
 
-  bisection-sound : (places number : ℕ) → 0 < places → 0 < number → (left : ℕ) (r : Bracket) (s : Ends) → r .steps + left ≡ allowance → Open number r → Good places s → Held places number (bisection ds fs entries places number left r s)
+  bisection-sound : (places number : ℕ) (first : Bracket) → 0 < places → 0 < number → (left : ℕ) (r : Bracket) (s : Ends) → r .steps + left ≡ allowance → Counting number first left r → Open number r → Good places s
+      → Held places number (bisection ds fs entries places number left r s)
   unfolding bisection withMidpoint converged tighten SoundFound
-  bisection-sound places number hp hn zero r s k o g = record { found = tt; left = g }
-  bisection-sound places number hp hn (suc left) r s k o g =
+  bisection-sound places number first hp hn zero r s k c o g = record { found = tt; left = g }
+  bisection-sound places number first hp hn (suc left) r s k c o g =
       cases (Held places number) (converged (withMidpoint r)) _ _
-      (λ e. record { found = record { midpoint = refl; gap = e; below = o .low; above = o .high; stepped = omega arith; allowed = omega arith }; left = g })
-      (λ _. bisection-sound places number hp hn left _ _ (omega arith)
+      (λ e. record { found = record { midpoint = refl; gap = e; below = o .low; above = o .high; stepped = omega arith; allowed = omega arith; own = all-counted number first left r c e }; left = g })
+      (λ e. bisection-sound places number first hp hn left _ _ (omega arith) (counting-on number first left r c e)
       (tighten-open number (withMidpoint r) (record { low = o .low; high = o .high }))
       (tighten-good places number _ _ s hp hn refl g))
 
@@ -180,7 +215,7 @@ module _ (ds fs : List Float) (entries : ℕ) (bounds : Bounds) (allowance : ℕ
   from-sound places hp hl zero p s out hn ho g old = λ _ q hq. old q (omega arith)
   from-sound places hp hl (suc n) p s out hn ho g old =
       let b = bisection ds fs entries places (p + 1) allowance (openedAt s p places) s in
-      let k : Held places (p + 1) b = bisection-sound places (p + 1) hp (omega arith) allowance (openedAt s p places) s (zero-add allowance) (open-good places p s (omega arith) g) g in
+      let k : Held places (p + 1) b = bisection-sound places (p + 1) (openedAt s p places) hp (omega arith) allowance (openedAt s p places) s (zero-add allowance) (record { steps = zero-add _; flag = refl }) (open-good places p s (omega arith) g) g in
       by-found (Fine places) (p + 1) (b .found) _ _ (k .found)
       (λ e. not-left e)
       (λ r h. from-sound places hp hl n (p + 1) _ _ (omega arith) (length-set out p r ∙ ho)

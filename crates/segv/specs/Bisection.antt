@@ -31,7 +31,7 @@ tighten count place r =
       lower = cond (ltb (count .negative) place) (r .value) (r .lower);
       upper = cond (ltb (count .negative) place) (r .upper) (r .value);
       steps = r .steps;
-      substituted = count .substituted || r .substituted;
+      substituted = r .substituted || count .substituted;
     }
 
 -- ---- the brackets of the other places

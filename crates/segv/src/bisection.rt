@@ -50,7 +50,7 @@ impl Bracket {
     pub(crate) fn tightened(self, count: sturm::Count, place: usize) -> Bracket
         ensures { λ r. ⌜ r ≡ Bisection.tighten count place self ⌝ }
     {
-        let substituted = count.substituted | self.substituted;
+        let substituted = self.substituted | count.substituted;
         if count.negative < place {
             return Bracket {
                 value: self.value,

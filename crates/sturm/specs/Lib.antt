@@ -1,4 +1,5 @@
 pub mod Entries
 pub mod Bounds
 pub mod Pivots
+pub mod Examples
 pub mod Inside
