@@ -27,6 +27,7 @@ pub fn row(kind: Kind, record: &Record) -> Vec<f64> {
     let mut values = vec![0.0; ROW_PLACES];
     let [mut lowers, mut uppers] = [[0.0; ROW_PLACES]; 2];
     let mut steps = [0; ROW_PLACES];
+    let mut substituted = [0; ROW_PLACES];
     let answer = spheroidal::row_into(
         kind_of(kind),
         mode_of(record),
@@ -35,6 +36,7 @@ pub fn row(kind: Kind, record: &Record) -> Vec<f64> {
         &mut steps,
         &mut lowers,
         &mut uppers,
+        &mut substituted,
     );
     accepted(answer, record);
     values.truncate(usize::from(record.n - record.m) + 1);

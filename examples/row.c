@@ -14,18 +14,21 @@ int main(void) {
     double values[SPHEROIDAL_ROW_PLACES], lowers[SPHEROIDAL_ROW_PLACES];
     double uppers[SPHEROIDAL_ROW_PLACES];
     uint16_t steps[SPHEROIDAL_ROW_PLACES];
+    uint8_t substituted[SPHEROIDAL_ROW_PLACES];
 
     uint8_t answer = spheroidal_oblate_row(
         m, n, c, SPHEROIDAL_LARGEST_ALLOWANCE, values, SPHEROIDAL_ROW_PLACES, steps,
-        SPHEROIDAL_ROW_PLACES, lowers, SPHEROIDAL_ROW_PLACES, uppers, SPHEROIDAL_ROW_PLACES);
+        SPHEROIDAL_ROW_PLACES, lowers, SPHEROIDAL_ROW_PLACES, uppers, SPHEROIDAL_ROW_PLACES,
+        substituted, SPHEROIDAL_ROW_PLACES);
     if (answer != SPHEROIDAL_OK) {
         fprintf(stderr, "the row is refused %d: %s\n", answer, spheroidal_refusal_sentence(answer));
         return 1;
     }
     printf("Oblate modes %d to %d with m = %d, c = %g\n", m, n, m, c);
-    printf("mode         characteristic value  steps\n");
+    printf("mode         characteristic value  steps  zero pivot\n");
     for (int j = 0; j <= n - m; j++) {
-        printf("%4d  %27.17g  %5d\n", m + j, values[j], steps[j]);
+        printf("%4d  %27.17g  %5d  %10s\n", m + j, values[j], steps[j],
+               substituted[j] ? "yes" : "no");
     }
 
     printf("\nAngular function of mode %d\n", n);

@@ -13,6 +13,9 @@ characteristic value: where it is left out, it is taken from the mode's row. all
 steps for each value of a row, 65535 if left out. A number is decimal, or 0x and the 16 digits of a
 double's bits.
 
+In a row, zero pivot says whether 1e-30 was put in for a pivot of zero while the value was bisected.
+That is no error, and common at small c.
+
 Angular and radial answers are checked (docs/ACCURACY.md): where fewer than 6 digits are left or a
 number is not finite, a warning is printed on the error output. The table stays as it is.
 
@@ -62,7 +65,10 @@ REFUSALS = {
     10: "a value used up its allowance of steps",
 }
 # How many words follow the record's number on a line.
-WORDS = {"V": 5, "D": 2, "A": 4, "F": 6, "R": 1}
+WORDS = {"V": 5, "Z": 2, "D": 2, "A": 4, "F": 6, "R": 1}
+# What the last word of a line Z means.
+ZERO_PIVOT = {"0": "no", "1": "yes"}
+MADE_BY = "The record program is made by: ./build"
 MOST_POINTS = 10_000
 LEAST_DIGITS = 6
 
@@ -145,11 +151,12 @@ def record(operation, fields, cv=0.0, x=0.0):
 
 
 def ask(program, records):
-    """For each record its lines, split into words: the letter first, the record's number left out."""
+    """For each record its lines, split into words: the letter first, the record's number left out. A
+    line V ends with the last word of its line Z."""
     try:
         done = subprocess.run([program], input=b"".join(records), stdout=subprocess.PIPE, check=True)
     except (OSError, subprocess.CalledProcessError) as error:
-        raise Misunderstood(f"{error}\nThe record program is made by: ./build") from None
+        raise Misunderstood(f"{error}\n{MADE_BY}") from None
     answers = [[] for _ in records]
     try:
         for line in done.stdout.decode("ascii").splitlines():
@@ -161,7 +168,21 @@ def ask(program, records):
         raise Misunderstood(f"{program} does not answer as the record program does") from None
     if not all(answers):
         raise Misunderstood(f"{program} did not answer every record")
-    return answers
+    return [joined(program, lines) for lines in answers]
+
+
+def joined(program, lines):
+    """A record's lines, each Z joined to the V before it."""
+    answer, left = [], iter(lines)
+    for line in left:
+        if line[0] in "VZ":
+            after = next(left, [])
+            if [line[0], *after[:2]] != ["V", "Z", line[1]] or after[2] not in ZERO_PIVOT:
+                said = f"{program} does not print a V and a Z line for mode {line[1]}"
+                raise Misunderstood(f"{said}: it may be older than this client\n{MADE_BY}")
+            line = [*line, after[2]]
+        answer.append(line)
+    return answer
 
 
 def ask_row(program, what, kind, fields):
@@ -267,8 +288,11 @@ def run(options):
         if what == "dlmf":
             print_table(["mode", "value"], [[at, show(value)] for _, at, value in lines])
         else:
-            rows = [[at, show(value), steps, show(low), show(up)] for _, at, steps, value, low, up in lines]
-            print_table(["mode", "value", "steps", "lower", "upper"], rows)
+            rows = [
+                [at, show(value), steps, show(lower), show(upper), ZERO_PIVOT[flag]]
+                for _, at, steps, value, lower, upper, flag in lines
+            ]
+            print_table(["mode", "value", "steps", "lower", "upper", "zero pivot"], rows)
         return
 
     cv = fields.get("cv")

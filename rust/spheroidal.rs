@@ -25,7 +25,7 @@ use std::error::Error;
 use std::fmt;
 
 /// The version, that of the header; which of its numbers moves when is said there.
-pub const VERSION: &str = "1.0.0";
+pub const VERSION: &str = "2.0.0";
 
 /// The largest m.
 pub const LARGEST_ORDER: u16 = 199;
@@ -56,13 +56,17 @@ pub struct Mode {
     pub c: f64,
 }
 
-/// A characteristic value with its number of steps and the bracket at the last of them.
+/// A characteristic value with its number of steps, the bracket at the last of them, and whether a
+/// zero pivot was met on the way.
 #[derive(Clone, Copy, Debug, PartialEq)]
 pub struct ModeValue {
     pub value: f64,
     pub steps: u16,
     pub lower: f64,
     pub upper: f64,
+    /// Whether, in some count of negative pivots made for this value, 1e-30 was divided by in place of
+    /// a pivot that was exactly zero. To be logged; it is no error, and common at small c.
+    pub substituted: bool,
 }
 
 /// A function's value and derivative.
@@ -143,6 +147,7 @@ pub fn row(kind: Kind, mode: Mode, allowance: u16) -> Result<Vec<ModeValue>, Ref
     let count = places(mode);
     let [mut values, mut lowers, mut uppers] = [[0.0; ROW_PLACES]; 3];
     let mut steps = [0; ROW_PLACES];
+    let mut substituted = [0; ROW_PLACES];
     row_into(
         kind,
         mode,
@@ -151,17 +156,20 @@ pub fn row(kind: Kind, mode: Mode, allowance: u16) -> Result<Vec<ModeValue>, Ref
         &mut steps[..count],
         &mut lowers[..count],
         &mut uppers[..count],
+        &mut substituted[..count],
     )?;
     let place = |at: usize| ModeValue {
         value: values[at],
         steps: steps[at],
         lower: lowers[at],
         upper: uppers[at],
+        substituted: substituted[at] != 0,
     };
     Ok((0..count).map(place).collect())
 }
 
-/// The row, written into the first n − m + 1 places of each slice; nothing is allocated.
+/// The row, written into the first n − m + 1 places of each slice; nothing is allocated. In
+/// `substituted`, 1 is yes and 0 no.
 pub fn row_into(
     kind: Kind,
     mode: Mode,
@@ -170,6 +178,7 @@ pub fn row_into(
     steps: &mut [u16],
     lowers: &mut [f64],
     uppers: &mut [f64],
+    substituted: &mut [u8],
 ) -> Result<(), Refusal> {
     let call = match kind {
         Kind::Prolate => library::spheroidal_prolate_row,
@@ -191,6 +200,8 @@ pub fn row_into(
             lowers.len(),
             uppers.as_mut_ptr(),
             uppers.len(),
+            substituted.as_mut_ptr(),
+            substituted.len(),
         )
     })
 }
@@ -333,6 +344,8 @@ mod library {
             lowers_length: usize,
             uppers: *mut f64,
             uppers_length: usize,
+            substituted: *mut u8,
+            substituted_length: usize,
         ) -> u8;
         pub fn spheroidal_oblate_row(
             m: u16,
@@ -347,6 +360,8 @@ mod library {
             lowers_length: usize,
             uppers: *mut f64,
             uppers_length: usize,
+            substituted: *mut u8,
+            substituted_length: usize,
         ) -> u8;
         pub fn spheroidal_prolate_dlmf_row(
             m: u16,

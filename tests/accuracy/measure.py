@@ -68,7 +68,7 @@ def answers_of(modes):
     rows = dict(zip(lasts, client.ask(str(client.PROGRAM), records)))
     answers = []
     for kind, m, n, c in modes:
-        value, lower, upper = map(client.double, rows[kind, m, c][n - m][3:])
+        value, lower, upper = map(client.double, rows[kind, m, c][n - m][3:6])
         d = checks.coefficients(LIBRARY, kind, m, n, c, value)
         if d:
             answers.append(Answer(kind, m, n, c, value, lower, upper, d))

@@ -97,11 +97,14 @@ impl OwnChecks {
     }
 }
 
-/// The example that document 01 prints in whole.
+/// The example that document 01 prints in whole, with the `Z` lines of document 02.
 const EXAMPLE_LINES: &str = "\
 V 0 0 0 0000000000000000 0000000000000000 0000000000000000
+Z 0 0 0
 V 0 1 0 4000000000000000 4000000000000000 4000000000000000
+Z 0 1 0
 V 0 2 0 4018000000000000 4018000000000000 4018000000000000
+Z 0 2 0
 A 1 0 0 3ff0000000000000 0000000000000000
 ";
 

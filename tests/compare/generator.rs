@@ -8,8 +8,6 @@ use crate::random::Random;
 
 const OPERATIONS: [(u64, u8); 7] = [(13, 1), (13, 2), (24, 3), (24, 4), (14, 5), (6, 6), (6, 7)];
 
-const SPOILED_PERCENT: u64 = 12;
-
 /// How large a mode is: this bounds the cost of a record.
 #[derive(Clone, Copy)]
 pub enum Size {
@@ -20,9 +18,9 @@ pub enum Size {
     Edge,
 }
 
-pub type Sizes = [(u64, Size); 5];
+pub type Sizes = &'static [(u64, Size)];
 
-const SIZES: Sizes = [
+const SIZES: Sizes = &[
     (60, Size::Small),
     (23, Size::Medium),
     (10, Size::HighOrder),
@@ -35,6 +33,7 @@ enum Parameter {
     Zero,
     BelowTiny,
     AroundTiny,
+    VerySmall,
     Small,
     Whole,
     Half,
@@ -101,21 +100,57 @@ const SPOILINGS: [(u64, Spoiling); 7] = [
     (8, Spoiling::Allowance),
 ];
 
+/// What records are drawn from.
+#[derive(Clone, Copy)]
+struct Mix {
+    operations: &'static [(u64, u8)],
+    sizes: Sizes,
+    parameters: &'static [(u64, Parameter)],
+    spoiled_percent: u64,
+}
+
+const ALL: Mix = Mix {
+    operations: &OPERATIONS,
+    sizes: SIZES,
+    parameters: &PARAMETERS,
+    spoiled_percent: 12,
+};
+
+/// Rows whose counts often meet a zero pivot, as hardly any others do. None is spoiled, since that
+/// would take most of those out of this range.
+const SMALL_C: Mix = Mix {
+    operations: &[(4, 1), (4, 2), (1, 6), (1, 7)],
+    sizes: &[
+        (80, Size::Small),
+        (14, Size::Medium),
+        (5, Size::HighOrder),
+        (1, Size::Large),
+    ],
+    parameters: &[(1, Parameter::VerySmall)],
+    spoiled_percent: 0,
+};
+
 pub struct Generator {
     random: Random,
-    sizes: Sizes,
+    mix: Mix,
 }
 
 impl Generator {
     pub fn new(seed: u64) -> Generator {
-        Generator::with_sizes(seed, SIZES)
+        Generator::with_sizes(seed, ALL.sizes)
     }
 
     pub fn with_sizes(seed: u64, sizes: Sizes) -> Generator {
-        Generator {
-            random: Random::new(seed),
-            sizes,
-        }
+        Generator::of_mix(seed, Mix { sizes, ..ALL })
+    }
+
+    pub fn with_small_c(seed: u64) -> Generator {
+        Generator::of_mix(seed, SMALL_C)
+    }
+
+    fn of_mix(seed: u64, mix: Mix) -> Generator {
+        let random = Random::new(seed);
+        Generator { random, mix }
     }
 
     pub fn records(&mut self, count: usize) -> Vec<Record> {
@@ -124,7 +159,7 @@ impl Generator {
 
     fn record(&mut self) -> Record {
         let mut record = self.sound_record();
-        if self.random.chance(SPOILED_PERCENT) {
+        if self.random.chance(self.mix.spoiled_percent) {
             // More than one fault tests the order of the refusals.
             let faults = self.random.weighted(&[(70, 1), (20, 2), (10, 3)]);
             for _ in 0..faults {
@@ -136,8 +171,8 @@ impl Generator {
 
     /// A record that no refusal from 3 to 8 turns back.
     fn sound_record(&mut self) -> Record {
-        let operation = self.random.weighted(&OPERATIONS);
-        let size = self.random.weighted(&self.sizes);
+        let operation = self.random.weighted(self.mix.operations);
+        let size = self.random.weighted(self.mix.sizes);
         self.sound_record_of(operation, size)
     }
 
@@ -196,7 +231,7 @@ impl Generator {
         record.n = m + offset;
         let parameter = match size {
             Size::Edge if self.random.chance(30) => Parameter::Limit,
-            _ => self.random.weighted(&PARAMETERS),
+            _ => self.random.weighted(self.mix.parameters),
         };
         record.c = self.size_parameter(parameter, record, request, greatest);
     }
@@ -214,6 +249,7 @@ impl Generator {
             Parameter::Zero => random.pick(&[0.0, 0.0, -0.0, 5e-324]),
             Parameter::BelowTiny => random.log_uniform(1e-300, 1e-10),
             Parameter::AroundTiny => beside(1e-10, random.pick(&[-1, 0, 1])),
+            Parameter::VerySmall => random.log_uniform(1e-10, 1e-3),
             Parameter::Small => random.log_uniform(1e-10, 1e-1),
             Parameter::Whole => whole,
             Parameter::Half => whole + 0.5,

@@ -14,7 +14,6 @@ use std::io::Write;
 use std::process::ExitCode;
 
 use oracle::answer::{Build, record_lines, stream_lines};
-use oracle::reading::refusal;
 use oracle::record::Record;
 
 use checks::OwnChecks;
@@ -25,7 +24,7 @@ use landed::{CLASSES, DAMAGED_STREAMS, any_landed, class_of, has_landed, landed_
 use program::Program;
 use tally::Tally;
 
-const USAGE: &str = "usage: compare [--records | --replay] [N] [SEED]";
+const USAGE: &str = "usage: compare [--records] [N] [SEED] [small-c] | compare --replay [N] [SEED]";
 const KNOWN_RECORDS: &str = "tests/oracle/traps.txt";
 /// Where the gate finds what it replays: one long stream, and many short ones.
 const REPLAY: &str = "crates/spheroidal";
@@ -44,6 +43,8 @@ const NOT_RUN: u8 = 2;
 struct Arguments {
     records: usize,
     seed: u64,
+    /// Fresh records are rows with small c alone.
+    small_c: bool,
     task: Task,
 }
 
@@ -77,7 +78,11 @@ fn arguments() -> Result<Arguments, String> {
     if task != Task::Compare {
         words.remove(0);
     }
-    if words.len() > 2 {
+    let small_c = words.last().is_some_and(|word| word == "small-c");
+    if small_c {
+        words.pop();
+    }
+    if words.len() > 2 || (small_c && task == Task::Replay) {
         return Err(USAGE.to_string());
     }
     let number = |at: usize, default: u64| match words.get(at) {
@@ -87,12 +92,17 @@ fn arguments() -> Result<Arguments, String> {
     Ok(Arguments {
         records: number(0, DEFAULT_RECORDS as u64)? as usize,
         seed: number(1, DEFAULT_SEED)?,
+        small_c,
         task,
     })
 }
 
 fn run(arguments: Arguments) -> Result<ExitCode, String> {
-    let mut generator = Generator::new(arguments.seed);
+    let mut generator = if arguments.small_c {
+        Generator::with_small_c(arguments.seed)
+    } else {
+        Generator::new(arguments.seed)
+    };
     if arguments.task == Task::Records {
         return write_records(&mut generator, arguments.records);
     }
@@ -108,15 +118,14 @@ fn run(arguments: Arguments) -> Result<ExitCode, String> {
     let mut run = Run {
         own: OwnChecks::new(),
         comparison: Comparison::new(program),
-        accepted: 0,
     };
     run.own.check_example();
     run.known_records(&file)?;
-    run.fresh_records(&mut generator, arguments.records);
+    let fresh = run.fresh_records(&mut generator, arguments.records);
     for stream in damaged::damaged_streams(&mut generator, &landed_operations()) {
         run.comparison.compare_damaged(&stream);
     }
-    Ok(run.report(&arguments))
+    Ok(run.report(&arguments, &fresh))
 }
 
 fn write_records(generator: &mut Generator, count: usize) -> Result<ExitCode, String> {
@@ -187,8 +196,26 @@ fn write_pair(folder: &str, input: &[u8], lines: &str) -> Result<(), String> {
 struct Run {
     own: OwnChecks,
     comparison: Comparison,
-    /// Fresh records that were not refused.
+}
+
+/// What records came to.
+#[derive(Default)]
+struct Figures {
+    /// Records that were not refused.
     accepted: usize,
+    z_lines: usize,
+    /// `Z` lines with 1: too few of them would test nothing.
+    substituted: usize,
+}
+
+impl Figures {
+    fn add(&mut self, lines: &str) {
+        self.accepted += usize::from(!lines.starts_with('R'));
+        for line in lines.lines().filter(|line| line.starts_with('Z')) {
+            self.z_lines += 1;
+            self.substituted += usize::from(line.ends_with(" 1"));
+        }
+    }
 }
 
 impl Run {
@@ -201,28 +228,29 @@ impl Run {
                 Input::Stream(stream) => self.comparison.compare_damaged(&stream),
             }
         }
-        self.records(&records);
+        self.records(&records, &mut Figures::default());
         Ok(())
     }
 
-    fn fresh_records(&mut self, generator: &mut Generator, count: usize) {
+    fn fresh_records(&mut self, generator: &mut Generator, count: usize) -> Figures {
+        let mut figures = Figures::default();
         let mut left = count;
         while left > 0 {
             let records = generator.records(left.min(STREAM_RECORDS));
             left -= records.len();
-            self.accepted += self.records(&records);
+            self.records(&records, &mut figures);
         }
+        figures
     }
 
-    /// Checks and compares records, and gives the number of those not refused.
-    fn records(&mut self, records: &[Record]) -> usize {
-        let mut accepted = 0;
+    /// Checks and compares records.
+    fn records(&mut self, records: &[Record], figures: &mut Figures) {
         let mut sent = Vec::new();
         let mut expected = Vec::new();
         for record in records {
             let lines = record_lines(Build::PowerRule, sent.len(), record);
             self.own.check_record(record, &lines);
-            accepted += usize::from(refusal(record).is_none() && !lines.starts_with('R'));
+            figures.add(&lines);
             if has_landed(class_of(record.operation)) {
                 sent.push(*record);
                 expected.push(lines);
@@ -231,14 +259,22 @@ impl Run {
             }
         }
         self.comparison.compare_records(&sent, &expected);
-        accepted
     }
 
-    fn report(&self, arguments: &Arguments) -> ExitCode {
+    fn report(&self, arguments: &Arguments, fresh: &Figures) -> ExitCode {
         let Arguments { records, seed, .. } = arguments;
+        let what = if arguments.small_c {
+            "fresh rows with small c"
+        } else {
+            "fresh records"
+        };
         println!(
-            "{records} fresh records of seed {seed}, {} of them accepted",
-            self.accepted
+            "{records} {what} of seed {seed}, {} of them accepted",
+            fresh.accepted
+        );
+        println!(
+            "{} Z lines, {} of them with 1",
+            fresh.z_lines, fresh.substituted
         );
         println!("The oracle's own checks");
         self.own.tallies().iter().for_each(|tally| tally.print());

@@ -1,19 +1,23 @@
 /*
  * Code as a caller writes it, in C and C++, with the casts that the header names and no others: it must
- * compile without a warning. Prints the version and the sentence of each refusal.
+ * compile without a warning. Prints the version and the sentence of each refusal, and logs zero pivots
+ * on the error output.
  */
 #include <stdio.h>
 
 #include "spheroidal.h"
 
-#if SPHEROIDAL_VERSION_MAJOR < 1
+#if SPHEROIDAL_VERSION_MAJOR < 2
 #error "this header is too old"
 #endif
 
 int main(void) {
     uint8_t number;
     uint16_t m;
-    double values[SPHEROIDAL_ROW_PLACES];
+    double values[SPHEROIDAL_ROW_PLACES], lowers[SPHEROIDAL_ROW_PLACES];
+    double uppers[SPHEROIDAL_ROW_PLACES];
+    uint16_t steps[SPHEROIDAL_ROW_PLACES];
+    uint8_t substituted[SPHEROIDAL_ROW_PLACES];
 
     printf("version %s\n", SPHEROIDAL_VERSION);
     for (number = SPHEROIDAL_REFUSED_MODE_NUMBERS; number <= SPHEROIDAL_REFUSED_ALLOWANCE; number++) {
@@ -21,11 +25,23 @@ int main(void) {
     }
     for (m = 0; m <= SPHEROIDAL_LARGEST_ORDER; m++) {
         const uint16_t n = (uint16_t)(m + 4);
-        const uint8_t answer = spheroidal_prolate_dlmf_row(m, n, 2.5, SPHEROIDAL_LARGEST_ALLOWANCE,
-                                                           values, (size_t)(n - m) + 1);
+        const size_t places = (size_t)(n - m) + 1;
+        size_t j;
+        uint8_t answer = spheroidal_prolate_dlmf_row(m, n, 2.5, SPHEROIDAL_LARGEST_ALLOWANCE, values,
+                                                     places);
+        if (answer == SPHEROIDAL_OK) {
+            answer = spheroidal_prolate_row(m, n, 2.5, SPHEROIDAL_LARGEST_ALLOWANCE, values, places,
+                                            steps, places, lowers, places, uppers, places,
+                                            substituted, places);
+        }
         if (answer != SPHEROIDAL_OK) {
             fprintf(stderr, "refused %d: %s\n", answer, spheroidal_refusal_sentence(answer));
             return answer;
+        }
+        for (j = 0; j < places; j++) {
+            if (substituted[j]) {
+                fprintf(stderr, "zero pivot: m %d, n %d, place %zu\n", m, n, j);
+            }
         }
     }
     return 0;

@@ -21,6 +21,7 @@ struct row_call {
 
 struct row_place {
     uint16_t steps;
+    uint8_t substituted;
     uint64_t value, lower, upper, dlmf;
 };
 
@@ -53,7 +54,8 @@ struct radial_call {
 
 /* A lent buffer stands inside a block, with places before and behind that nothing may touch. */
 #define GUARD 8
-#define LONGEST (SPHEROIDAL_COEFFICIENTS + 4)
+#define ROW_BUFFERS 5
+#define LONGEST (SPHEROIDAL_COEFFICIENTS + ROW_BUFFERS)
 #define BLOCK (GUARD + LONGEST + GUARD)
 #define SHOWN 10
 
@@ -63,7 +65,7 @@ static long passed, failed;
 static const int fills[] = {0x00, 0xa5, 0xff};
 
 typedef uint8_t (*row_function)(uint16_t, uint16_t, double, uint16_t, double *, size_t, uint16_t *,
-                                size_t, double *, size_t, double *, size_t);
+                                size_t, double *, size_t, double *, size_t, uint8_t *, size_t);
 typedef uint8_t (*dlmf_function)(uint16_t, uint16_t, double, uint16_t, double *, size_t);
 typedef uint8_t (*coefficient_function)(uint16_t, uint16_t, double, double, double *, size_t);
 typedef uint8_t (*angular_function)(uint16_t, uint16_t, double, double, double, double *, double *);
@@ -129,6 +131,17 @@ static int steps_right(const uint16_t *block, int fill, const uint16_t *expected
     return 1;
 }
 
+static int bytes_right(const uint8_t *block, int fill, const uint8_t *expected, size_t count) {
+    size_t at;
+    for (at = 0; at < BLOCK; at++) {
+        int written = at >= GUARD && at < GUARD + count;
+        if (block[at] != (written ? expected[at - GUARD] : fill)) {
+            return 0;
+        }
+    }
+    return 1;
+}
+
 /* The answer where a buffer is too short: 9, unless an earlier refusal applies. */
 static uint8_t answer_if_short(uint8_t answer) {
     int earlier = answer != SPHEROIDAL_OK && answer < SPHEROIDAL_REFUSED_BUFFER;
@@ -141,11 +154,13 @@ static size_t places_of(uint16_t m, uint16_t n) {
     return (offset < SPHEROIDAL_LARGEST_OFFSET ? offset : SPHEROIDAL_LARGEST_OFFSET) + 1;
 }
 
-static void row_with(size_t number, const size_t lengths[4], int is_short, int fill) {
+static void row_with(size_t number, const size_t lengths[ROW_BUFFERS], int is_short, int fill) {
     static double values[BLOCK], lowers[BLOCK], uppers[BLOCK];
     static uint16_t steps[BLOCK];
+    static uint8_t substituted[BLOCK];
     uint64_t expected_values[LONGEST], expected_lowers[LONGEST], expected_uppers[LONGEST];
     uint16_t expected_steps[LONGEST];
+    uint8_t expected_substituted[LONGEST];
     const struct row_call *call = &row_calls[number];
     uint8_t expected = is_short ? answer_if_short(call->answer) : call->answer;
     size_t count = expected == SPHEROIDAL_OK ? places_of(call->m, call->n) : 0;
@@ -158,35 +173,42 @@ static void row_with(size_t number, const size_t lengths[4], int is_short, int f
         expected_steps[at] = place->steps;
         expected_lowers[at] = place->lower;
         expected_uppers[at] = place->upper;
+        expected_substituted[at] = place->substituted;
     }
     memset(values, fill, sizeof values);
     memset(steps, fill, sizeof steps);
     memset(lowers, fill, sizeof lowers);
     memset(uppers, fill, sizeof uppers);
+    memset(substituted, fill, sizeof substituted);
     answer = row_functions[call->kind](call->m, call->n, double_of(call->c), call->allowance,
                                        values + GUARD, lengths[0], steps + GUARD, lengths[1],
-                                       lowers + GUARD, lengths[2], uppers + GUARD, lengths[3]);
+                                       lowers + GUARD, lengths[2], uppers + GUARD, lengths[3],
+                                       substituted + GUARD, lengths[4]);
     check(answer == expected, name, number, "answer");
     check(doubles_right(values, fill, expected_values, count), name, number, "values");
     check(steps_right(steps, fill, expected_steps, count), name, number, "steps");
     check(doubles_right(lowers, fill, expected_lowers, count), name, number, "lowers");
     check(doubles_right(uppers, fill, expected_uppers, count), name, number, "uppers");
+    check(bytes_right(substituted, fill, expected_substituted, count), name, number, "substituted");
 }
 
 /* Buffers just long enough, longer, of different lengths, each in turn too short by one, and empty.
  */
 static void check_row(size_t number, int fill) {
     size_t needed = places_of(row_calls[number].m, row_calls[number].n);
-    size_t lengths[4] = {needed, needed, needed, needed};
+    size_t lengths[ROW_BUFFERS];
     size_t at;
+    for (at = 0; at < ROW_BUFFERS; at++) {
+        lengths[at] = needed;
+    }
     row_with(number, lengths, 0, fill);
-    for (at = 0; at < 4; at++) {
+    for (at = 0; at < ROW_BUFFERS; at++) {
         lengths[at] = needed - 1;
         row_with(number, lengths, 1, fill);
         lengths[at] = needed + 1 + at;
     }
     row_with(number, lengths, 0, fill);
-    for (at = 0; at < 4; at++) {
+    for (at = 0; at < ROW_BUFFERS; at++) {
         lengths[at] = 0;
     }
     row_with(number, lengths, 1, fill);
@@ -282,8 +304,9 @@ static void check_radial(size_t number, int fill) {
 static uint8_t plain_row(uint16_t m, uint16_t n, double c, size_t length) {
     static double values[LONGEST], lowers[LONGEST], uppers[LONGEST];
     static uint16_t steps[LONGEST];
+    static uint8_t substituted[LONGEST];
     return spheroidal_oblate_row(m, n, c, SPHEROIDAL_LARGEST_ALLOWANCE, values, length, steps, length,
-                                 lowers, length, uppers, length);
+                                 lowers, length, uppers, length, substituted, length);
 }
 
 /* The header's limits are the library's: each is the last that passes or the first that does not. */

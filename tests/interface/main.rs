@@ -32,11 +32,13 @@ const STREAM: usize = 1000;
 /// What lent places hold beforehand.
 const OLD: f64 = -7.5;
 const OLD_STEPS: u16 = 54_321;
+const OLD_BYTE: u8 = 165;
 
 struct Tallies {
     answers: Tally,
     row_slices: Tally,
     dlmf_slices: Tally,
+    zero_pivots: Tally,
     coefficients: Tally,
     errors: Tally,
 }
@@ -60,10 +62,12 @@ fn main() -> ExitCode {
         answers: Tally::new("wrapper, the oracle's lines"),
         row_slices: Tally::new("wrapper, slices of rows"),
         dlmf_slices: Tally::new("wrapper, slices of DLMF rows"),
+        zero_pivots: Tally::new("wrapper, known zero pivots"),
         coefficients: Tally::new("wrapper, coefficients"),
         errors: Tally::new("wrapper, errors"),
     };
     tallies.check_errors();
+    tallies.check_zero_pivots();
     known.iter().for_each(|record| tallies.compare(record));
     let mut generator = Generator::new(seed);
     let mut left = count;
@@ -117,9 +121,11 @@ fn lines(record: &Record, request: Request) -> String {
                     steps,
                     lower,
                     upper,
+                    substituted,
                 } = *place;
                 let [value, lower, upper] = [value, lower, upper].map(hex);
-                format!("V 0 {at} {steps} {value} {lower} {upper}\n")
+                let substituted = u8::from(substituted);
+                format!("V 0 {at} {steps} {value} {lower} {upper}\nZ 0 {at} {substituted}\n")
             };
             (m..).zip(&row).map(line).collect()
         }),
@@ -140,6 +146,8 @@ fn pair_words(Pair { value, derivative }: Pair) -> String {
     format!("{} {}", hex(value), hex(derivative))
 }
 
+const ROW_SLICES: usize = 5;
+
 /// The slices of a row.
 #[derive(Clone)]
 struct Lent {
@@ -147,15 +155,17 @@ struct Lent {
     steps: Vec<u16>,
     lowers: Vec<f64>,
     uppers: Vec<f64>,
+    substituted: Vec<u8>,
 }
 
 impl Lent {
-    fn new(lengths: [usize; 4]) -> Lent {
+    fn new(lengths: [usize; ROW_SLICES]) -> Lent {
         Lent {
             values: vec![OLD; lengths[0]],
             steps: vec![OLD_STEPS; lengths[1]],
             lowers: vec![OLD; lengths[2]],
             uppers: vec![OLD; lengths[3]],
+            substituted: vec![OLD_BYTE; lengths[4]],
         }
     }
 
@@ -165,6 +175,7 @@ impl Lent {
             self.steps[at] = place.steps;
             self.lowers[at] = place.lower;
             self.uppers[at] = place.upper;
+            self.substituted[at] = u8::from(place.substituted);
         }
     }
 
@@ -173,6 +184,7 @@ impl Lent {
             && self.steps == other.steps
             && all_same(&self.lowers, &other.lowers)
             && all_same(&self.uppers, &other.uppers)
+            && self.substituted == other.substituted
     }
 }
 
@@ -216,14 +228,14 @@ impl Tallies {
         let row = spheroidal::row(kind, mode, record.allowance);
         let needed = usize::from(mode.n.saturating_sub(mode.m).min(199)) + 1;
         let mut lengths = vec![
-            [needed; 4],
-            [needed + 4, needed + 1, needed + 2, needed + 3],
-            [0; 4],
+            [needed; ROW_SLICES],
+            [needed + 5, needed + 1, needed + 2, needed + 3, needed + 4],
+            [0; ROW_SLICES],
         ];
-        for short in 0..4 {
-            let mut four = [needed; 4];
-            four[short] -= 1;
-            lengths.push(four);
+        for short in 0..ROW_SLICES {
+            let mut five = [needed; ROW_SLICES];
+            five[short] -= 1;
+            lengths.push(five);
         }
         for lengths in lengths {
             let mut lent = Lent::new(lengths);
@@ -233,9 +245,18 @@ impl Tallies {
                 steps,
                 lowers,
                 uppers,
+                substituted,
             } = &mut lent;
-            let answer =
-                spheroidal::row_into(kind, mode, record.allowance, values, steps, lowers, uppers);
+            let answer = spheroidal::row_into(
+                kind,
+                mode,
+                record.allowance,
+                values,
+                steps,
+                lowers,
+                uppers,
+                substituted,
+            );
             let right = if lengths.iter().any(|&length| length < needed) {
                 answer == Err(if_short(&row))
             } else {
@@ -352,11 +373,30 @@ impl Tallies {
         }
     }
 
+    /// Rows for which it is known in which modes a zero pivot is met, whatever the oracle says.
+    fn check_zero_pivots(&mut self) {
+        let rows: [(u16, u16, f64, &[bool]); 4] = [
+            (0, 2, 1e-5, &[false, true, false]),
+            (4, 4, 1e-4, &[true]),
+            (0, 2, 1e-10, &[true, false, false]),
+            (0, 0, 1e-10, &[false]),
+        ];
+        for (m, n, c, expected) in rows {
+            let mode = Mode { m, n, c };
+            let row = spheroidal::row(Kind::Prolate, mode, u16::MAX).unwrap_or_default();
+            let found: Vec<bool> = row.iter().map(|place| place.substituted).collect();
+            self.zero_pivots.count(found == expected, || {
+                format!("{mode:?}: {found:?}, not {expected:?}")
+            });
+        }
+    }
+
     fn report(&self) -> ExitCode {
         let all = [
             &self.answers,
             &self.row_slices,
             &self.dlmf_slices,
+            &self.zero_pivots,
             &self.coefficients,
             &self.errors,
         ];

@@ -1,5 +1,5 @@
 #!/usr/bin/env python3
-"""Loads the shared library and holds a row and a refusal of it against the record program.
+"""Loads the shared library and holds rows and refusals of it against the record program.
 
 Usage: tests/interface/shared.py LIBRARY PROGRAM. Status 1: something differs.
 """
@@ -8,29 +8,38 @@ import struct
 import subprocess
 import sys
 
-M, N, C, ALLOWANCE, OBLATE_ROW = 0, 4, 2.5, 65535, 2
+ALLOWANCE = 65535
+# The operation, its function, m, n and c; the second row meets a zero pivot.
+ROWS = [(2, "spheroidal_oblate_row", 0, 4, 2.5), (1, "spheroidal_prolate_row", 0, 2, 1e-5)]
+BUFFERS = (ctypes.c_double, ctypes.c_uint16, ctypes.c_double, ctypes.c_double, ctypes.c_uint8)
 
 
-def row(library, places):
-    """The function's number, and what the four buffers hold afterwards."""
-    lent = [(kind * places)() for kind in (ctypes.c_double, ctypes.c_uint16, ctypes.c_double, ctypes.c_double)]
-    function = library.spheroidal_oblate_row
+def call(function, m, n, c, places):
+    """The function's number, and what the five buffers hold afterwards."""
+    lent = [(kind * places)() for kind in BUFFERS]
     mode = [ctypes.c_uint16, ctypes.c_uint16, ctypes.c_double, ctypes.c_uint16]
     function.argtypes = mode + [kind for buffer in lent for kind in (type(buffer), ctypes.c_size_t)]
     function.restype = ctypes.c_uint8
-    number = function(M, N, C, ALLOWANCE, *(word for buffer in lent for word in (buffer, places)))
+    number = function(m, n, c, ALLOWANCE, *(word for buffer in lent for word in (buffer, places)))
     return number, [list(buffer) for buffer in lent]
 
 
-def lines(values, steps, lowers, uppers):
-    for at, (steps, *doubles) in enumerate(zip(steps, values, lowers, uppers)):
-        yield " ".join(["V 0", str(M + at), str(steps), *(struct.pack(">d", x).hex() for x in doubles)])
+def lines(m, values, steps, lowers, uppers, substituted):
+    places = zip(values, steps, lowers, uppers, substituted)
+    for mode, (value, step, lower, upper, flag) in enumerate(places, m):
+        yield " ".join(["V 0", str(mode), str(step), *(struct.pack(">d", x).hex() for x in (value, lower, upper))])
+        yield f"Z 0 {mode} {flag}"
+
+
+def same(library, program, operation, name, m, n, c):
+    record = b"SW" + struct.pack("<BHHHddd", operation, m, n, ALLOWANCE, c, 0.0, 0.0)
+    printed = subprocess.run([program], input=record, capture_output=True, check=True).stdout.decode()
+    function, places = getattr(library, name), n - m + 1
+    number, buffers = call(function, m, n, c, places)
+    short, untouched = call(function, m, n, c, places - 1)
+    answered = number == 0 and list(lines(m, *buffers)) == printed.splitlines()
+    return answered and short == 9 and not any(map(any, untouched))
 
 
 library, program = ctypes.CDLL(sys.argv[1]), sys.argv[2]
-record = b"SW" + struct.pack("<BHHHddd", OBLATE_ROW, M, N, ALLOWANCE, C, 0.0, 0.0)
-printed = subprocess.run([program], input=record, capture_output=True, check=True).stdout.decode()
-number, buffers = row(library, N - M + 1)
-short, untouched = row(library, N - M)
-same = list(lines(*buffers)) == printed.splitlines()
-sys.exit(0 if same and number == 0 and short == 9 and not any(map(any, untouched)) else 1)
+sys.exit(0 if all(same(library, program, *row) for row in ROWS) else 1)

@@ -40,7 +40,7 @@ const PIECE: u64 = 500;
 const WAITING: usize = 64;
 
 /// Mostly small modes: a large one costs the oracle as much as fifty.
-const SIZES: Sizes = [
+const SIZES: Sizes = &[
     (940, Size::Small),
     (15, Size::Medium),
     (40, Size::HighOrder),

@@ -141,18 +141,18 @@ pub fn record_lines(build: Build, number: usize, record: &Record) -> String {
     let _named = NameOnPanic(record);
     let Record { m, n, x, .. } = *record;
     match Request::of_operation(record.operation).expect("an operation from 1 to 7") {
-        Request::Row(kind) => row_lines(number, kind, record, v_line),
+        Request::Row(kind) => row_lines(number, kind, record, v_and_z_lines),
         Request::DlmfRow(kind) => row_lines(number, kind, record, d_line),
         Request::Angular(kind) => mode_line('A', number, m, n, &aswfa(build, kind, record, x)),
         Request::Radial => mode_line('F', number, m, n, &rswfo(record)),
     }
 }
 
-/// Writes one line of a row from the record's number, the mode, the record's c, the value by
-/// `segv` and what the reading found.
-type LineOfRow = fn(usize, u16, f64, f64, &reading::RowValue) -> String;
+/// Writes the lines of one mode of a row from the record's number, the mode, the record's c, the
+/// value by `segv` and what the reading found.
+type LinesOfMode = fn(usize, u16, f64, f64, &reading::RowValue) -> String;
 
-fn row_lines(number: usize, kind: Kind, record: &Record, line: LineOfRow) -> String {
+fn row_lines(number: usize, kind: Kind, record: &Record, lines_of_mode: LinesOfMode) -> String {
     let Record {
         m, n, c, allowance, ..
     } = *record;
@@ -165,14 +165,21 @@ fn row_lines(number: usize, kind: Kind, record: &Record, line: LineOfRow) -> Str
         if !same(value, read.value) {
             disagreements += &format!("X {number} {mode} {} {}\n", hex(value), hex(read.value));
         }
-        lines += &line(number, mode, c, value, read);
+        lines += &lines_of_mode(number, mode, c, value, read);
     }
     disagreements + &lines
 }
 
-fn v_line(number: usize, mode: u16, _c: f64, value: f64, read: &reading::RowValue) -> String {
-    let (steps, lower, upper) = (read.steps, hex(read.lower), hex(read.upper));
-    format!("V {number} {mode} {steps} {} {lower} {upper}\n", hex(value))
+fn v_and_z_lines(
+    number: usize,
+    mode: u16,
+    _c: f64,
+    value: f64,
+    read: &reading::RowValue,
+) -> String {
+    let (steps, substituted) = (read.steps, u8::from(read.substituted));
+    let [value, lower, upper] = [value, read.lower, read.upper].map(hex);
+    format!("V {number} {mode} {steps} {value} {lower} {upper}\nZ {number} {mode} {substituted}\n")
 }
 
 fn d_line(number: usize, mode: u16, c: f64, value: f64, _read: &reading::RowValue) -> String {

@@ -1,6 +1,7 @@
-//! A plain reading of document 01: the refusals, and the row by bisection.
+//! A plain reading of document 01, with the cards of document 02 that have landed: the refusals, and
+//! the row by bisection.
 //!
-//! Written from the document's words and not from `sphd.rs`, so that the two can be held against
+//! Written from the documents' words and not from `sphd.rs`, so that the two can be held against
 //! each other.
 
 use crate::record::{Kind, Record, Request};
@@ -66,13 +67,15 @@ fn x_refused(x: f64, request: Request) -> bool {
     }
 }
 
-/// A characteristic value with the bracket that its stopping test used and its step number.
+/// A characteristic value with the bracket that its stopping test used, its step number, and
+/// whether the substitute was put in during any count for its place.
 #[derive(Clone, Copy, Debug)]
 pub struct RowValue {
     pub steps: u32,
     pub value: f64,
     pub lower: f64,
     pub upper: f64,
+    pub substituted: bool,
 }
 
 /// Refusal 10.
@@ -124,6 +127,7 @@ fn zero_parameter_value(mode: u16) -> RowValue {
         value,
         lower: value,
         upper: value,
+        substituted: false,
     }
 }
 
@@ -198,20 +202,40 @@ fn gershgorin_bounds(entries: &[Entry]) -> Bracket {
     bounds
 }
 
-/// The number of negative pivots at a shift.
-fn negative_pivots(entries: &[Entry], shift: f64) -> usize {
+/// What a count at a shift gives: how many pivots are negative, and whether the substitute was put
+/// in during this count.
+#[derive(Clone, Copy)]
+struct PivotCount {
+    negative: usize,
+    substituted: bool,
+}
+
+/// A zero pivot of either sign is replaced as the next entry begins, so that the last one never is.
+fn count_pivots(entries: &[Entry], shift: f64) -> PivotCount {
     let mut s = 1.0;
-    let mut count = 0;
+    let mut count = PivotCount {
+        negative: 0,
+        substituted: false,
+    };
     for entry in entries {
         if s == 0.0 {
             s = PIVOT_SUBSTITUTE;
+            count.substituted = true;
         }
         s = (entry.d - entry.f / s) - shift;
         if s < 0.0 {
-            count += 1;
+            count.negative += 1;
         }
     }
     count
+}
+
+/// A place that is to be bisected: its bracket, which the counts of other places may tighten too,
+/// and whether the substitute was put in during a count of its own.
+#[derive(Clone, Copy)]
+struct Place {
+    bracket: Bracket,
+    substituted: bool,
 }
 
 /// All places of one parity, the odd place beyond n included.
@@ -224,36 +248,42 @@ fn family(
     allowance: u16,
 ) -> Result<Vec<RowValue>, OutOfSteps> {
     let entries = entries(kind, parity, m, n, c);
-    let places = usize::from((n - m + 2) / 2);
-    let mut brackets = vec![gershgorin_bounds(&entries); places];
-    (1..=places)
-        .map(|place| {
-            open(&mut brackets, place);
-            bisect(&entries, &mut brackets, place, allowance)
+    let fresh = Place {
+        bracket: gershgorin_bounds(&entries),
+        substituted: false,
+    };
+    let mut places = vec![fresh; usize::from((n - m + 2) / 2)];
+    (1..=places.len())
+        .map(|number| {
+            open(&mut places, number);
+            bisect(&entries, &mut places, number, allowance)
         })
         .collect()
 }
 
 /// What a place takes over from its neighbours before it is bisected. Places count from 1.
-fn open(brackets: &mut [Bracket], place: usize) {
-    let own = brackets[place - 1];
-    let later = brackets[place..].iter().map(|bracket| bracket.upper);
-    if let Some(upper) = later.into_iter().find(|&upper| upper < own.upper) {
-        brackets[place - 1].upper = upper;
+fn open(places: &mut [Place], number: usize) {
+    let own = places[number - 1].bracket;
+    let mut later = places[number..].iter().map(|place| place.bracket.upper);
+    if let Some(upper) = later.find(|&upper| upper < own.upper) {
+        places[number - 1].bracket.upper = upper;
     }
-    if place > 1 && brackets[place - 2].lower > own.lower {
-        brackets[place - 1].lower = brackets[place - 2].lower;
+    if number > 1 && places[number - 2].bracket.lower > own.lower {
+        places[number - 1].bracket.lower = places[number - 2].bracket.lower;
     }
 }
 
 fn bisect(
     entries: &[Entry],
-    brackets: &mut [Bracket],
-    place: usize,
+    places: &mut [Place],
+    number: usize,
     allowance: u16,
 ) -> Result<RowValue, OutOfSteps> {
     for steps in 1..=u32::from(allowance) {
-        let Bracket { lower, upper } = brackets[place - 1];
+        let Place {
+            bracket: Bracket { lower, upper },
+            substituted,
+        } = places[number - 1];
         let value = (upper + lower) / 2.0;
         if ((upper - lower) / value).abs() < TOLERANCE {
             return Ok(RowValue {
@@ -261,30 +291,34 @@ fn bisect(
                 value,
                 lower,
                 upper,
+                substituted,
             });
         }
-        tighten(brackets, place, value, negative_pivots(entries, value));
+        tighten(places, number, value, count_pivots(entries, value));
     }
     Err(OutOfSteps)
 }
 
-/// What a count at a place's midpoint says of this place and of others.
-fn tighten(brackets: &mut [Bracket], place: usize, midpoint: f64, count: usize) {
-    if count < place {
-        brackets[place - 1].lower = midpoint;
+/// What a count at a place's midpoint says: its number tightens this place and others, its flag is
+/// this place's alone.
+fn tighten(places: &mut [Place], number: usize, midpoint: f64, count: PivotCount) {
+    let own = &mut places[number - 1];
+    own.substituted |= count.substituted;
+    if count.negative < number {
+        own.bracket.lower = midpoint;
         return;
     }
-    brackets[place - 1].upper = midpoint;
-    let places = brackets.len();
-    if count >= places {
-        brackets[places - 1].upper = midpoint;
+    own.bracket.upper = midpoint;
+    let last = places.len();
+    if count.negative >= last {
+        places[last - 1].bracket.upper = midpoint;
         return;
     }
-    let after = &mut brackets[count];
+    let after = &mut places[count.negative].bracket;
     if after.lower < midpoint {
         after.lower = midpoint;
     }
-    let counted = &mut brackets[count - 1];
+    let counted = &mut places[count.negative - 1].bracket;
     if midpoint < counted.upper {
         counted.upper = midpoint;
     }
