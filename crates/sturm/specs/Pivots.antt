@@ -7,10 +7,11 @@ use lib.Ieee.{Float, eq, lt}
 use Rattle.arith.specs.Double.{_⊖_, _⊘_, #0, #1, #1e-30, at}
 use Rattle.sturm.specs.declared.pivots.Count.{Count}
 
+-- so many pivots below zero, and was 1e-30 put in
 abbrev pub count : ℕ → Bool → Count
 count n b = record { negative = n; substituted = b }
 
--- the pivot after some entries, and the count up to it: how many pivots were below zero, and was 1e-30 put in
+-- the pivot after some entries, and the count up to it
 pub record Pivots : Type 0 where
   pub last : Float
   pub count : Count

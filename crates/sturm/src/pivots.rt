@@ -226,6 +226,7 @@ fn substitutes(d: &[f64; 300], f: &[f64; 300], entries: usize, shift: f64) -> bo
     substituted
 }
 
+// At each of seven shifts.
 fn substitutes_at(d: &[f64; 300], f: &[f64; 300], entries: usize, shifts: Seven) -> Flags
     requires { ⌜ entries ≤ 300 ⌝ }
     ensures { λ r. ⌜ r ≡ countsAt (negativePivots (now (d .entry)) (now (f .entry)) entries) shifts .substituted ⌝ }
