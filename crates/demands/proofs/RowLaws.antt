@@ -9,7 +9,6 @@ use Rattle.arith.specs.Double.{_⊖_, _⊗_, dbl, #0, #1e-10}
 use Rattle.arith.proofs.Laws.{dbl-product}
 use Rattle.segv.specs.declared.bisection.Bracket.{Bracket}
 use Rattle.segv.specs.Families.{eitherStopped}
-use lib.Dec.{eqb}
 use Rattle.segv.specs.Row.{Slices, flag, writtenRow}
 use Rattle.segv.proofs.Allowance.{families-more}
 use Rattle.modes.specs.declared.checking.Mode.{Mode}

@@ -9,7 +9,7 @@ use lib.Ieee.{Float}
 use lib.ListN.{getD, replicate}
 use Rattle.arith.specs.Double.{at, #0}
 use Rattle.records.specs.declared.record.Record.{Record}
-use Rattle.records.specs.Lines.{number, double, newline, bracket, pair, vLine, zLine, dLine, aLine, fLine, rLine}
+use Rattle.records.specs.Lines.{number, double, newline, bracket, pair, vLine, zLine, dLine, rLine}
 use Rattle.segv.specs.Row.{Slices}
 use Rattle.modes.specs.declared.answers.Answer.{Answer}
 use Rattle.modes.specs.declared.answers.Answer.the-variants as Answers

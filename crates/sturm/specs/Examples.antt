@@ -1,5 +1,4 @@
 -- Counts of small matrices, as a table with one theorem over it. No row is known whose count ends on a zero pivot, so that only this table shows what such a count says.
-use Prim.Native.Nat.{ℕ}
 use mathlib.Core.Path.{_≡_, refl}
 use mathlib.Core.Bool.{true, false}
 use mathlib.Core.List.{List, [], _∷_, map}

@@ -1,13 +1,13 @@
 -- The chain of pivots at one shift, entry by entry, and the seven that the loop of `negative_pivots` carries. Assumes nothing.
 use Prim.Native.Nat.{ℕ, _+_, _<_, _≤_}
-use mathlib.Core.Path.{_≡_, refl, sym, ap, _∙_}
+use mathlib.Core.Path.{_≡_, refl}
 use mathlib.Core.Bool.{Bool, true, false, cond}
 use mathlib.Core.List.{List}
 use native.Mathlib.Omega.{arith}
 use native.Mathlib.Numerals.{add-one}
 use lib.Ieee.{Float, eq, lt}
 use Rattle.arith.specs.Double.{#0, #1, at}
-use Rattle.sturm.specs.Pivots.{Pivots, divisor, pivot, nextPivot, pivotsAt, negativePivots}
+use Rattle.sturm.specs.Pivots.{divisor, pivot, nextPivot, pivotsAt, negativePivots}
 use Rattle.sturm.specs.Inside.SevenShifts.{each, countsAt, noNumbers, noFlags, nextPivots, countedOn, NoZero, Few}
 use Rattle.sturm.specs.declared.pivots.Numbers.{Numbers}
 use Rattle.sturm.specs.declared.pivots.Flags.{Flags}
