@@ -150,8 +150,8 @@ extern "C" {
  * Bisection counts negative pivots. A place of substituted is 1 where, in some count made for this
  * mode's own value, a pivot was exactly zero and 1e-30 was divided by in its place, else 0; the
  * last entry's pivot is divided by nothing and does not count. It is there to be logged and is no
- * error: such values were found as accurate as others (docs/ACCURACY.md). With c from 1e-10 to 0.01
- * some 3 modes in 100 have it: the prolate row of m 0 and n 2 has 1, 0, 0 at c = 1e-10 and 0, 1, 0 at
+ * error: such values were found as accurate as others (docs/ACCURACY.md). With c from 1e-10 to 0.01,
+ * 2 or 3 modes in 100 have it: the prolate row of m 0 and n 2 has 1, 0, 0 at c = 1e-10 and 0, 1, 0 at
  * c = 1e-5. From c = 0.1 on it is rare: of 168,000 modes drawn none had it, though some have.
  *
  * The allowance is the most steps that each value may use; one that needs more refuses the whole row

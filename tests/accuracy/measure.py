@@ -212,6 +212,23 @@ def print_near_zero(modes):
     print()
 
 
+def print_zero_pivots(count):
+    """Values for which a zero pivot was replaced, and the others of their rows. Such rows have small c."""
+    choice, modes = random.Random(20261116), []
+    for _ in range(count):
+        m = choice.randrange(7)
+        modes.append((choice.choice(KINDS), m, m + choice.randrange(9), 10 ** choice.uniform(-10, -3)))
+    errors = {"yes": [], "no": []}
+    for (kind, m, _, c), row in zip(modes, client.ask(str(client.PROGRAM), [record("row", *mode) for mode in modes])):
+        flags = [client.ZERO_PIVOT[line[-1]] for line in row]
+        if "yes" in flags:
+            for n, (line, flag) in enumerate(zip(row, flags), m):
+                value = client.double(line[3])
+                errors[flag].append(abs(Decimal(value) / Mode(kind, m, n, c, value).value - 1))
+    print(f"Rows with c from 1e-10 to 1e-3: of {len(errors['yes'])} values with a zero pivot the largest ", end="")
+    print(f"relative error is {max(errors['yes']):.1e}, of {len(errors['no'])} others beside them {max(errors['no']):.1e}.\n")
+
+
 def print_reliable(parameters, largest_order, largest_offset):
     """The least digits of all modes with small m and n - m."""
     print(f"### Least digits with m up to {largest_order} and n − m up to {largest_offset}\n")
@@ -395,6 +412,7 @@ def main(words):
     print_self_test(random_modes(20 if quick else 100, 60, 60, 60, KINDS))
     print_measurements((1e-7, 1.0, 20.0) if quick else PARAMETERS)
     print_near_zero([(0, 1), (1, 1), (2, 6), (10, 12)])
+    print_zero_pivots(400 if quick else 4000)
     print_reliable((1.0,) if quick else (9e-11, 1e-4, 1e-3, 0.03, 1.0, 7.0, 10.0), 12, 15)
     print_examples()
     print_wrong_directions((1e-7, 1e-5) if quick else [10 ** (e / 2) for e in range(-20, -5)])

@@ -126,11 +126,12 @@ module _ (kind : Kind) (x : Mode) (allowance : ℕ) where
     unfolding rowOf
     filled-of r s g = rw (r, s) (g .row-in-is l)
 
--- what is handed out
+-- a flag is read back from its byte
 pub flag-back : (b : Bool) → eqb (flag b) 1 ≡ b
 flag-back true = refl
 flag-back false = refl
 
+-- what is handed out
 pub handed-at : (x : Mode) (bracket : ℕ → Bracket) (l : Slices) → Long x l → (j : ℕ) → j ≤ x .n - x .m → handed (writtenRow bracket (x .n - x .m + 1) l) j ≡ bracket j
 unfolding writtenRow
 handed-at x bracket l k j hj =
