@@ -7,16 +7,19 @@ use native.Mathlib.Nat.{zero-div, zero-mul, mul-one, mul-pos, add-comm, mul-comm
 use native.Mathlib.Omega.{arith}
 use borrow.Author.Tests.{ltb-true, ltb-false}
 use lib.IntN.{pos, negℤ}
-use lib.Dec.{ltb}
-use lib.Ieee.{Float, nan, inf, fin, binary64, prec, emax, low, up, down, size, nearest, odd, units, round, sum, add, sub, mul, lt, neg, ofInt, toSigned, toUnsigned, ofBits}
+use lib.Dec.{T, ltb}
+use lib.Ieee.{Float, nan, inf, fin, binary64, prec, emax, low, up, down, size, nearest, odd, units, round, sum, add, sub, mul, lt, neg, ofInt, toSigned, toUnsigned, ofBits, toBits, fits, isNan}
 use lib.Ieee.Back.{round-whole}
 use lib.Ieee.Scale.{round-same}
 use lib.Ieee.Exact.{HasValue}
 use lib.Ieee.Fits.{down-pos}
+use lib.Ieee.Positive.{positive}
 use Rattle.arith.specs.Double.{_⊖_, _⊗_, dbl, #0}
 use Rattle.arith.specs.Truncation.{truncate, wholePart}
 use Rattle.arith.specs.Choice.{abs, lesser, greater}
 use Rattle.arith.proofs.Flags.{not-taken, not-left}
+use Rattle.arith.proofs.root.Cases.{positive-number}
+use Rattle.arith.proofs.root.Pack.{bits-pos, bits-finite}
 
 -- ---- truncation
 
@@ -159,3 +162,13 @@ lesser-either a b = either (lt b a) a b
 pub greater-either : (a b : Float) → (greater a b ≡ a) ⊎ (greater a b ≡ b)
 unfolding greater
 greater-either a b = either (lt a b) a b
+
+-- ---- the bits of a finite double above zero, for the callers of `scale`
+pub number-above-zero : (x : Float) → T (positive x) → T (not (isNan x))
+number-above-zero x p = positive-number x p
+
+pub bits-above-zero : (x : Float) → T (fits binary64 x) → T (positive x) → 0 < toBits binary64 x
+bits-above-zero x f p = bits-pos x f p
+
+pub bits-below-infinity : (x : Float) → T (fits binary64 x) → T (positive x) → toBits binary64 x < 2047 * 2 ^ 52
+bits-below-infinity x f p = bits-finite x f p

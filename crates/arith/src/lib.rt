@@ -13,6 +13,8 @@ pub use pattern::from_bits;
 pub use pattern::to_bits;
 pub use powers::half_power;
 pub use powers::power;
+pub use root::Scaled;
+pub use root::scale;
 pub use root::sqrt;
 pub use truncation::truncate;
 pub use truncation::whole_part;

@@ -63,13 +63,13 @@ fn nearest_root(n: u64) -> u64
 }
 
 // The number m * 2^(e - 2148), with an m of 53 binary digits.
-struct Scaled {
-    m: u64,
-    e: u64,
+pub struct Scaled {
+    pub m: u64,
+    pub e: u64,
 }
 
 // The number that the bits of a double stand for, where it is finite and above zero.
-fn scale(bits: u64) -> Scaled
+pub fn scale(bits: u64) -> Scaled
     requires { ⌜ (0 < bits) × (bits < 0x7ff0_0000_0000_0000) ⌝ }
     ensures { λ r. ⌜ IsScaled bits (r .m) (r .e) ⌝ }
 {

@@ -1,0 +1,8 @@
+-- Lemmas for the arctangent.
+pub mod Sides
+pub mod Adding
+pub mod Moved
+pub mod Nearly
+pub mod Upto
+pub mod Distinct
+pub mod Rotated

@@ -1,0 +1,3 @@
+-- Whole numbers as doubles, and doubles in order.
+pub mod Exactly
+pub mod Order

@@ -1,0 +1,22 @@
+-- `logarithms::guess` is safe: its whole numbers are doubles. Assumes nothing.
+use Prim.Native.Nat.{_^_}
+use native.Mathlib.Nat.{le-of-lt}
+use lib.Dec.{le→leb}
+use lib.Ieee.{inFloat}
+use borrow.Author.Needs.{needs}
+use Rattle.elementary.proofs.logarithms.guess.Statement.{statement}
+use Rattle.elementary.proofs.logarithms.guess.Tie as tie
+
+int-to-float-f : tie.Need-int-to-float-f
+unfolding inFloat
+int-to-float-f c = le→leb (c .before .args .m) (2 ^ 53) (le-of-lt (c .before .pre .0))
+
+int-to-float-n : tie.Need-int-to-float-n
+unfolding inFloat
+int-to-float-n c = le→leb (c .before .before .args .e) (2 ^ 53) (le-of-lt (c .before .before .pre .1))
+
+returns : tie.Need-returns
+returns c = search needs
+
+pub guess-spec : {M : Type 1} → statement M
+guess-spec = tie.close (tie.spec int-to-float-f int-to-float-n returns)

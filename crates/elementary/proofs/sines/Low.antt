@@ -1,0 +1,487 @@
+-- Arguments below 1: from the sums of the square's series to the doubles. Assumes nothing.
+use mathlib.Core.Path.{_≡_, refl, sym, ap, _∙_, subst}
+use mathlib.Core.Bool.{Bool, true, false, true≢false}
+use Prim.Native.Nat.{ℕ, zero, suc, _+_, _-_, _*_, _/_, _%_, _^_, _≤_, _<_, zero-le}
+use native.Mathlib.Nat.{le-trans, le-of-eq, le-of-lt, le-refl, add-assoc, add-comm, add-le-add, mul-add, add-mul, mul-comm, mul-assoc, mul-left-comm, mul-right-comm, mul-le-mul, mul-le-mul-left, mul-le-mul-right, le-of-mul-le-mul-right, le-of-mul-le-mul-left, mul-pos, zero-lt-suc, one-mul, mul-one, zero-mul, mul-zero, zero-add, pow-suc, lt-of-lt-of-le, mul-mul-mul-comm}
+use native.Mathlib.Omega.{arith}
+use lib.Pow.{pow-pos, pow-add}
+use lib.Dec.{leb→le}
+use lib.IntN.{pos}
+use lib.Ieee.{Float, nan, inf, fin, up, down, binary64, ofBits}
+use lib.Ieee.Exact.{HasValue}
+use lib.Ieee.Positive.{num, den, den-pos}
+use Rattle.elementary.specs.Series.{Quarter, east, north, west, south, start, back, at, sum, part}
+use Rattle.elementary.specs.Series.{term}
+use Rattle.elementary.specs.Within.{Within}
+use Rattle.elementary.specs.Within as C
+use Rattle.elementary.specs.Arctangent.{NotBelow}
+use Rattle.elementary.specs.Inside.Fixed.{Apart, IsHigh}
+use Rattle.elementary.specs.Inside.Circle.{Law, State, plus, less}
+use Rattle.elementary.specs.Inside.Small.{IsSplit, IsRoot, Alternating}
+use Rattle.elementary.proofs.circle.Sums.{sum-cong}
+use Rattle.elementary.proofs.circle.Terms.{term-law}
+use Rattle.elementary.proofs.sines.Alternate.{two-law, peel, east-further, west-further, east-most, west-most, east-least}
+use Rattle.elementary.proofs.circle.Signed.{apart-times}
+use Rattle.elementary.proofs.sines.Doubles.{within-own}
+use Rattle.elementary.proofs.sines.Range.{Whole}
+
+-- ---- a share of i / j that is not above 1 is within 1
+pub narrower : (r : Float) (P Q U i j : ℕ) → 0 < j → i ≤ j → Within r P Q U i j → Within r P Q U 1 1
+narrower r P Q U i j p h w = record {
+  number = w .number;
+  under = go (C.plus r * U + Q * den r) (P * den r + C.less r * U) (w .under);
+  over = go (P * den r + C.less r * U) (C.plus r * U + Q * den r) (w .over);
+}
+  where
+    go : (x y : ℕ) → 2 ^ 40 * j * x ≤ 2 ^ 40 * j * y + i * (den r * U) → 2 ^ 40 * 1 * x ≤ 2 ^ 40 * 1 * y + 1 * (den r * U)
+    go x y l = plain x y (den r * U) (le-of-mul-le-mul-left {k = j} (le-trans (le-of-eq (sym (turn x))) (le-trans l (le-trans (add-on (2 ^ 40 * j * y) (mul-le-mul-right (den r * U) h)) (le-of-eq (ap (λ (z : ℕ). z + j * (den r * U)) (turn y) ∙ sym (mul-add j (2 ^ 40 * y) (den r * U))))))) p)
+      where
+        turn : (x : ℕ) → 2 ^ 40 * j * x ≡ j * (2 ^ 40 * x)
+        turn x = ap (λ (z : ℕ). z * x) (mul-comm (2 ^ 40) j) ∙ mul-assoc j (2 ^ 40) x
+
+        plain : (x y w : ℕ) → 2 ^ 40 * x ≤ 2 ^ 40 * y + w → 2 ^ 40 * 1 * x ≤ 2 ^ 40 * 1 * y + 1 * w
+        plain x y w l = omega (arith, l)
+
+        add-on : (a : ℕ) {b c : ℕ} → b ≤ c → a + b ≤ a + c
+        add-on a l = add-le-add (le-refl a) l
+
+-- ---- the share as it is shown: j times r, the sums and the error
+share-under : (A D P Q U i j pl le : ℕ) → pl ≡ A → le ≡ 0 → 2 ^ 40 * (j * (A * U) + j * (D * Q)) ≤ 2 ^ 40 * (j * (D * P)) + i * (D * U) → 2 ^ 40 * j * (pl * U + Q * D) ≤ 2 ^ 40 * j * (P * D + le * U) + i * (D * U)
+share-under A D P Q U i j pl le p q h = rw (p, q, zero-mul U) (le-trans (le-of-eq one) (le-trans h (le-of-eq (ap (λ (z : ℕ). z + i * (D * U)) two))))
+  where
+    one : 2 ^ 40 * j * (A * U + Q * D) ≡ 2 ^ 40 * (j * (A * U) + j * (D * Q))
+    one = mul-assoc (2 ^ 40) j (A * U + Q * D) ∙ ap (λ (z : ℕ). 2 ^ 40 * z) (mul-add j (A * U) (Q * D) ∙ ap (λ (z : ℕ). j * (A * U) + j * z) (mul-comm Q D))
+
+    two : 2 ^ 40 * (j * (D * P)) ≡ 2 ^ 40 * j * (P * D + 0)
+    two = sym (mul-assoc (2 ^ 40) j (D * P)) ∙ ap (λ (z : ℕ). 2 ^ 40 * j * z) (mul-comm D P ∙ go (P * D))
+      where
+        go : (x : ℕ) → x ≡ x + 0
+        go x = omega arith
+
+share-over : (A D P Q U i j pl le : ℕ) → pl ≡ A → le ≡ 0 → 2 ^ 40 * (j * (D * P)) ≤ 2 ^ 40 * (j * (A * U) + j * (D * Q)) + i * (D * U) → 2 ^ 40 * j * (P * D + le * U) ≤ 2 ^ 40 * j * (pl * U + Q * D) + i * (D * U)
+share-over A D P Q U i j pl le p q h = rw (p, q, zero-mul U) (le-trans (le-of-eq (sym two)) (le-trans h (le-of-eq (ap (λ (z : ℕ). z + i * (D * U)) (sym one)))))
+  where
+    one : 2 ^ 40 * j * (A * U + Q * D) ≡ 2 ^ 40 * (j * (A * U) + j * (D * Q))
+    one = mul-assoc (2 ^ 40) j (A * U + Q * D) ∙ ap (λ (z : ℕ). 2 ^ 40 * z) (mul-add j (A * U) (Q * D) ∙ ap (λ (z : ℕ). j * (A * U) + j * z) (mul-comm Q D))
+
+    two : 2 ^ 40 * (j * (D * P)) ≡ 2 ^ 40 * j * (P * D + 0)
+    two = sym (mul-assoc (2 ^ 40) j (D * P)) ∙ ap (λ (z : ℕ). 2 ^ 40 * j * z) (mul-comm D P ∙ go (P * D))
+      where
+        go : (x : ℕ) → x ≡ x + 0
+        go x = omega arith
+
+-- ---- the sums without their first terms
+from-one : (u : ℕ → ℕ) (d : ℕ) (c : Quarter) → start c ≡ 0 → part u (suc d) c ≡ part (λ (j : ℕ). u (1 + j)) d (back c)
+from-one u d c z =
+    peel u d c
+    ∙ ap (λ (x : ℕ). x * u 0 + part (λ (j : ℕ). u (suc j)) d (back c)) z
+    ∙ none (u 0) (part (λ (j : ℕ). u (suc j)) d (back c))
+    ∙ sum-cong (λ (j : ℕ). at (back c) j * u (suc j)) (λ (j : ℕ). at (back c) j * u (1 + j)) d (λ j l. ap (λ (x : ℕ). at (back c) j * u x) (go j))
+  where
+    none : (a s : ℕ) → 0 * a + s ≡ s
+    none a s = omega arith
+
+    go : (j : ℕ) → suc j ≡ 1 + j
+    go j = omega arith
+
+pub from-zero : (u : ℕ → ℕ) (d : ℕ) (c : Quarter) → part u d c ≡ part (λ (j : ℕ). u (0 + j)) d c
+from-zero u d c = sum-cong (λ (j : ℕ). at c j * u j) (λ (j : ℕ). at c j * u (0 + j)) d (λ j l. ap (λ (x : ℕ). at c j * u x) (sym (zero-add j)))
+
+-- ---- the cosine
+pub cosine-low : (r : Float) (a b q g n : ℕ) → 0 < b → a < b → IsRoot a b q → Alternating q 0 20 20 g → 600 ≤ n → HasValue r false ((g + 1024) / 2 ^ 11) (2 ^ 52)
+    → Within r (part (term a b n) n east) (part (term a b n) n west) (term a b n 0) 1 1
+cosine-low r a b q g n p h sq t l v =
+    within-own r (g + 1024) (part (term a b n) n east) (part (term a b n) n west) (term a b n 0) v
+    (rw (from-zero (term a b n) n east, from-zero (term a b n) n west)
+    (go g (term a b n 0) (part (λ (j : ℕ). term a b n (0 + j)) n east * 2 ^ 63) (part (λ (j : ℕ). term a b n (0 + j)) n west * 2 ^ 63) (t .near (term a b n) a b n n p (le-of-lt h) (term-law a b n) sq (enough n l) (same n))))
+  where
+    enough : (n : ℕ) → 600 ≤ n → 20 ≤ n
+    enough n l = omega arith
+
+    same : (n : ℕ) → 0 + n ≤ n
+    same n = omega arith
+
+    go : (g U P Q : ℕ) → Apart (g * U) (0 * U) P Q (20 * U) → Apart ((g + 1024) * U) (0 * U) P Q (2 ^ 22 * U)
+    go g U P Q a = rw (add-mul g 1024 U) (sums (g * U) (0 * U) a)
+      where
+        sums : (x z : ℕ) → Apart x z P Q (20 * U) → Apart (x + 1024 * U) z P Q (2 ^ 22 * U)
+        sums x z a = record { under = omega (arith, a .under, a .over); over = omega (arith, a .under, a .over) }
+
+-- ---- the sine, on numbers: r is A / D, x is a / b
+module _ (G H A D R a b m g p E W U v : ℕ) (h0 : 0 < H) (isG : G ≡ 2 ^ 63)
+    (value : A * H ≡ R * D) (near-low : R ≤ p + 512) (near-high : p ≤ R + 511) (low : p * G ≤ m * g) (high : m * g ≤ (p + 4) * G)
+    (split : a * H ≡ m * b) (least : 2 ^ 62 ≤ m) (first : b * v ≡ a * U) (near : Apart (g * v) (0 * v) (E * G) (W * G) (20 * v)) where
+  abbrev B1 : ℕ
+  B1 = b * U * D
+
+  abbrev X : ℕ
+  X = b * (A * U)
+
+  abbrev Y : ℕ
+  Y = b * (D * W)
+
+  abbrev Z : ℕ
+  Z = b * (D * E)
+
+  abbrev S : ℕ
+  S = a * (D * U)
+
+  own : X * (G * H) ≡ B1 * (R * G)
+  own = one ∙ ap (λ (z : ℕ). b * U * z * G) value ∙ two
+    where
+      one : b * (A * U) * (G * H) ≡ b * U * (A * H) * G
+      one = simp (mul-assoc, mul-comm, mul-left-comm)
+
+      two : b * U * (R * D) * G ≡ b * U * D * (R * G)
+      two = simp (mul-assoc, mul-comm, mul-left-comm)
+
+  turned : B1 * (m * g) ≡ b * (D * H) * (g * v)
+  turned = one ∙ ap (λ (z : ℕ). U * D * g * z) (sym split) ∙ two ∙ ap (λ (z : ℕ). D * g * H * z) (sym first) ∙ three
+    where
+      one : b * U * D * (m * g) ≡ U * D * g * (m * b)
+      one = simp (mul-assoc, mul-comm, mul-left-comm)
+
+      two : U * D * g * (a * H) ≡ D * g * H * (a * U)
+      two = simp (mul-assoc, mul-comm, mul-left-comm)
+
+      three : D * g * H * (b * v) ≡ b * (D * H) * (g * v)
+      three = simp (mul-assoc, mul-comm, mul-left-comm)
+
+  unit : b * (D * H) * v ≡ S * H
+  unit = one ∙ ap (λ (z : ℕ). D * H * z) first ∙ two
+    where
+      one : b * (D * H) * v ≡ D * H * (b * v)
+      one = simp (mul-assoc, mul-comm, mul-left-comm)
+
+      two : D * H * (a * U) ≡ a * (D * U) * H
+      two = simp (mul-assoc, mul-comm, mul-left-comm)
+
+  east-of : b * (D * H) * (E * G) ≡ Z * (G * H)
+  east-of = simp (mul-assoc, mul-comm, mul-left-comm)
+
+  west-of : b * (D * H) * (W * G) ≡ Y * (G * H)
+  west-of = simp (mul-assoc, mul-comm, mul-left-comm)
+
+  room : B1 * G ≤ 2 * (S * H)
+  room = subst (λ (z : ℕ). B1 * z ≤ 2 * (S * H)) (sym isG) (twice B1 (S * H) (le-trans (le-of-eq (one (2 ^ 62))) (le-trans (mul-le-mul-left (U * D) (mul-le-mul-right b least)) (le-of-eq (ap (λ (z : ℕ). U * D * z) (sym split) ∙ two)))))
+    where
+      one : (t : ℕ) → b * U * D * t ≡ U * D * (t * b)
+      one t = simp (mul-assoc, mul-comm, mul-left-comm)
+
+      two : U * D * (a * H) ≡ a * (D * U) * H
+      two = simp (mul-assoc, mul-comm, mul-left-comm)
+
+      twice : (x s : ℕ) → x * 2 ^ 62 ≤ s → x * 2 ^ 63 ≤ 2 * s
+      twice x s h = omega arith
+
+  -- the rounded product, and the sums, in the common unit
+  rounded-low : X * (G * H) ≤ B1 * (m * g) + 512 * (B1 * G)
+  rounded-low = le-trans (le-of-eq own) (le-trans (mul-le-mul-left B1 (le-trans (mul-le-mul-right G near-low) (le-trans (le-of-eq (add-mul p 512 G)) (add-le-add low (le-refl (512 * G)))))) (le-of-eq (mul-add B1 (m * g) (512 * G) ∙ ap (λ (z : ℕ). B1 * (m * g) + z) (mul-left-comm B1 512 G))))
+
+  rounded-high : B1 * (m * g) ≤ X * (G * H) + 515 * (B1 * G)
+  rounded-high =
+      le-trans (mul-le-mul-left B1 (le-trans high (le-trans (mul-le-mul-right G (more p R near-high)) (le-of-eq (add-mul R 515 G)))))
+      (le-of-eq (mul-add B1 (R * G) (515 * G) ∙ ap (λ (z : ℕ). z + B1 * (515 * G)) (sym own) ∙ ap (λ (z : ℕ). X * (G * H) + z) (mul-left-comm B1 515 G)))
+    where
+      more : (p R : ℕ) → p ≤ R + 511 → p + 4 ≤ R + 515
+      more p R h = omega arith
+
+  summed : Apart (B1 * (m * g)) 0 (Z * (G * H)) (Y * (G * H)) (20 * (S * H))
+  summed =
+      subst (λ (z : ℕ). Apart (B1 * (m * g)) z (Z * (G * H)) (Y * (G * H)) (20 * (S * H))) (ap (λ (z : ℕ). b * (D * H) * z) (zero-mul v) ∙ mul-zero (b * (D * H)))
+      (rw (turned, ← east-of, ← west-of, ← unit, mul-left-comm 20 (b * (D * H)) v) (apart-times (b * (D * H)) near))
+
+  both : (X * (G * H) + Y * (G * H) ≤ Z * (G * H) + 2 ^ 11 * (S * H)) × (Z * (G * H) ≤ X * (G * H) + Y * (G * H) + 2 ^ 11 * (S * H))
+  both = go (X * (G * H)) (Y * (G * H)) (Z * (G * H)) (S * H) (B1 * (m * g)) (B1 * G) rounded-low rounded-high room summed
+    where
+      go : (x y z s c d : ℕ) → x ≤ c + 512 * d → c ≤ x + 515 * d → d ≤ 2 * s → Apart c 0 z y (20 * s) → (x + y ≤ z + 2 ^ 11 * s) × (z ≤ x + y + 2 ^ 11 * s)
+      go x y z s c d h k l a = (omega (arith, h, k, l, a .under, a .over), omega (arith, h, k, l, a .under, a .over))
+
+  pub sine-under : 2 ^ 40 * (X + Y) ≤ 2 ^ 40 * Z + S
+  sine-under = finish X Y Z S (subst (λ (t : ℕ). X * t + Y * t ≤ Z * t + 2 ^ 11 * S) isG (le-of-mul-le-mul-right {k = H} (le-trans (le-of-eq left) (le-trans (both .0) (le-of-eq right))) h0))
+    where
+      left : (X * G + Y * G) * H ≡ X * (G * H) + Y * (G * H)
+      left = add-mul (X * G) (Y * G) H ∙ ap (λ (z : ℕ). z + Y * G * H) (mul-assoc X G H) ∙ ap (λ (z : ℕ). X * (G * H) + z) (mul-assoc Y G H)
+
+      right : Z * (G * H) + 2 ^ 11 * (S * H) ≡ (Z * G + 2 ^ 11 * S) * H
+      right = sym (add-mul (Z * G) (2 ^ 11 * S) H ∙ ap (λ (z : ℕ). z + 2 ^ 11 * S * H) (mul-assoc Z G H) ∙ ap (λ (z : ℕ). Z * (G * H) + z) (mul-assoc (2 ^ 11) S H))
+
+      finish : (x y z s : ℕ) → x * 2 ^ 63 + y * 2 ^ 63 ≤ z * 2 ^ 63 + 2 ^ 11 * s → 2 ^ 40 * (x + y) ≤ 2 ^ 40 * z + s
+      finish x y z s h = omega (arith, h)
+
+  pub sine-over : 2 ^ 40 * Z ≤ 2 ^ 40 * (X + Y) + S
+  sine-over = finish X Y Z S (subst (λ (t : ℕ). Z * t ≤ X * t + Y * t + 2 ^ 11 * S) isG (le-of-mul-le-mul-right {k = H} (le-trans (le-of-eq (mul-assoc Z G H)) (le-trans (both .1) (le-of-eq right))) h0))
+    where
+      right : X * (G * H) + Y * (G * H) + 2 ^ 11 * (S * H) ≡ (X * G + Y * G + 2 ^ 11 * S) * H
+      right = sym (add-mul (X * G + Y * G) (2 ^ 11 * S) H ∙ ap (λ (z : ℕ). z + 2 ^ 11 * S * H) (add-mul (X * G) (Y * G) H ∙ ap (λ (z : ℕ). z + Y * G * H) (mul-assoc X G H) ∙ ap (λ (z : ℕ). X * (G * H) + z) (mul-assoc Y G H)) ∙ ap (λ (z : ℕ). X * (G * H) + Y * (G * H) + z) (mul-assoc (2 ^ 11) S H))
+
+      finish : (x y z s : ℕ) → z * 2 ^ 63 ≤ x * 2 ^ 63 + y * 2 ^ 63 + 2 ^ 11 * s → 2 ^ 40 * z ≤ 2 ^ 40 * (x + y) + s
+      finish x y z s h = omega (arith, h)
+
+-- ---- the same of doubles
+pub sine-low : (r : Float) (a b q m k g p n : ℕ) → 0 < b → IsSplit a b m k → IsRoot a b q → Alternating q 1 20 20 g → IsHigh m g p → 600 ≤ n → HasValue r false ((p + 512) / 2 ^ 10) (2 ^ 52 * 2 ^ (k + 1))
+    → Within r (part (term a b n) n north) (part (term a b n) n south) (term a b n 0) a b
+sine-low nan a b q m k g p n b0 s sq t i l v = absurd v
+sine-low (inf s′) a b q m k g p n b0 s sq t i l v = absurd v
+sine-low (fin true M e) a b q m k g p n b0 s sq t i l v = absurd (true≢false (v .0))
+sine-low (fin false M e) a b q m k g p n b0 s sq t i l v = record {
+  number = tt;
+  under = rw (parts north refl, parts south refl) (share-under (M * up e) (down e) E W U a b (M * up e) 0 refl refl (sine-under (2 ^ 63) (2 ^ 63 * 2 ^ k) (M * up e) (down e) (N * 2 ^ 10) a b m g p E W U (u 1) h0 refl value (omega-low N p is-low) (omega-high N p is-high) (i .low) (le-of-lt (i .high)) (s .value) (s .least) first near));
+  over = rw (parts north refl, parts south refl) (share-over (M * up e) (down e) E W U a b (M * up e) 0 refl refl (sine-over (2 ^ 63) (2 ^ 63 * 2 ^ k) (M * up e) (down e) (N * 2 ^ 10) a b m g p E W U (u 1) h0 refl value (omega-low N p is-low) (omega-high N p is-high) (i .low) (le-of-lt (i .high)) (s .value) (s .least) first near));
+}
+  where
+    u : ℕ → ℕ
+    u = term a b n
+
+    d : ℕ
+    d = n - 1
+
+    E : ℕ
+    E = part (λ (j : ℕ). u (1 + j)) d east
+
+    W : ℕ
+    W = part (λ (j : ℕ). u (1 + j)) d west
+
+    U : ℕ
+    U = term a b n 0
+
+    N : ℕ
+    N = (p + 512) / 2 ^ 10
+
+    is-low : N * 2 ^ 10 ≤ p + 512
+    is-low = go p
+      where
+        go : (p : ℕ) → (p + 512) / 2 ^ 10 * 2 ^ 10 ≤ p + 512
+        go p = omega arith
+
+    is-high : p + 512 < N * 2 ^ 10 + 2 ^ 10
+    is-high = go p
+      where
+        go : (p : ℕ) → p + 512 < (p + 512) / 2 ^ 10 * 2 ^ 10 + 2 ^ 10
+        go p = omega arith
+
+    omega-low : (N p : ℕ) → N * 2 ^ 10 ≤ p + 512 → N * 2 ^ 10 ≤ p + 512
+    omega-low N p h = h
+
+    omega-high : (N p : ℕ) → p + 512 < N * 2 ^ 10 + 2 ^ 10 → p ≤ N * 2 ^ 10 + 511
+    omega-high N p h = omega arith
+
+    longer : (n : ℕ) → 600 ≤ n → n ≡ suc (n - 1)
+    longer n l = omega arith
+
+    parts : (c : Quarter) → start c ≡ 0 → part u n c ≡ part (λ (j : ℕ). u (1 + j)) d (back c)
+    parts c z = ap (λ (x : ℕ). part u x c) (longer n l) ∙ from-one u d c z
+
+    h0 : 0 < 2 ^ 63 * 2 ^ k
+    h0 = mul-pos (pow-pos 63) (pow-pos k)
+
+    value : M * up e * (2 ^ 63 * 2 ^ k) ≡ N * 2 ^ 10 * down e
+    value =
+        one (M * up e) (2 ^ k)
+        ∙ ap (λ (z : ℕ). z * 2 ^ 10) (ap (λ (z : ℕ). M * up e * (2 ^ 52 * z)) (sym (power k)) ∙ v .1)
+        ∙ mul-right-comm N (down e) (2 ^ 10)
+      where
+        one : (x y : ℕ) → x * (2 ^ 63 * y) ≡ x * (2 ^ 52 * (y * 2)) * 2 ^ 10
+        one x y = mul-left-comm x (2 ^ 63) y ∙ go (x * y) ∙ ap (λ (z : ℕ). z * 2 ^ 10) (sym (mul-left-comm x (2 ^ 52) (y * 2) ∙ ap (λ (z : ℕ). 2 ^ 52 * z) (sym (mul-assoc x y 2))))
+          where
+            go : (z : ℕ) → 2 ^ 63 * z ≡ 2 ^ 52 * (z * 2) * 2 ^ 10
+            go z = omega arith
+
+        power : (k : ℕ) → 2 ^ (k + 1) ≡ 2 ^ k * 2
+        power k = pow-add 2 k 1
+
+    first : b * u 1 ≡ a * U
+    first = ap (λ (x : ℕ). b * x) (sym (one-mul (u 1))) ∙ term-law a b n 0 (lt-of-lt-of-le (zero-lt-suc 599) l)
+
+    enough : (n : ℕ) → 600 ≤ n → 20 ≤ n - 1
+    enough n l = omega arith
+
+    fits : (n : ℕ) → 600 ≤ n → 1 + (n - 1) ≤ n
+    fits n l = omega arith
+
+    near : Apart (g * u 1) (0 * u 1) (E * 2 ^ 63) (W * 2 ^ 63) (20 * u 1)
+    near = t .near u a b n d b0 (le-of-lt (s .below)) (term-law a b n) sq (enough n l) (fits n l)
+
+-- ---- below 2 ^ -27: 1 and x
+module _ (a b n : ℕ) (b0 : 0 < b) (tiny : a * 2 ^ 27 ≤ b) (l : 600 ≤ n) where
+  small : a ≤ b
+  small = go a b tiny
+    where
+      go : (a b : ℕ) → a * 2 ^ 27 ≤ b → a ≤ b
+      go a b h = omega arith
+
+  abbrev tu : ℕ → ℕ
+  tu = term a b n
+
+  -- the square of the argument is at most 2 ^ -54
+  squared : 2 ^ 54 * (a * a) ≤ b * b
+  squared = le-trans (le-of-eq (go a)) (mul-le-mul tiny tiny)
+    where
+      go : (a : ℕ) → 2 ^ 54 * (a * a) ≡ a * 2 ^ 27 * (a * 2 ^ 27)
+      go a = sym (mul-mul-mul-comm a (2 ^ 27) a (2 ^ 27) ∙ mul-comm (a * a) (2 ^ 27 * 2 ^ 27))
+
+  third : (k : ℕ) → suc k < n → 2 ^ 54 * (suc k * suc (suc k) * tu (suc (suc k))) ≤ tu k
+  third k h = le-of-mul-le-mul-left {k = b * b} (le-trans (le-of-eq (mul-left-comm (b * b) (2 ^ 54) (suc k * suc (suc k) * tu (suc (suc k))) ∙ ap (λ (z : ℕ). 2 ^ 54 * z) (two-law tu a b n k (term-law a b n) h) ∙ sym (mul-assoc (2 ^ 54) (a * a) (tu k)))) (mul-le-mul-right (tu k) squared)) (mul-pos b0 b0)
+
+  two-off : (n : ℕ) → 600 ≤ n → n ≡ suc (suc (n - 2))
+  two-off n l = omega arith
+
+  three-off : (n : ℕ) → 600 ≤ n → n - 1 ≡ suc (suc (n - 3))
+  three-off n l = omega arith
+
+  pub one-is : Within (fin false 1 (pos 0)) (part (term a b n) n east) (part (term a b n) n west) (term a b n 0) 1 1
+  one-is = record {
+    number = tt;
+    under = rw (easts, wests) (go-under (tu 0) (tu 2) (part (λ (j : ℕ). tu (2 + j)) (n - 2) west) (part (λ (j : ℕ). tu (2 + j)) (n - 2) east) drop second);
+    over = rw (easts, wests) (go-over (tu 0) (tu 2) (part (λ (j : ℕ). tu (2 + j)) (n - 2) west) (part (λ (j : ℕ). tu (2 + j)) (n - 2) east) drop first);
+  }
+    where
+      fits : (n : ℕ) → 600 ≤ n → 2 + (n - 2) ≤ n
+      fits n l = omega arith
+
+      more : (n : ℕ) → 600 ≤ n → 1 < n
+      more n l = omega arith
+
+      easts : part tu n east ≡ tu 0 + part (λ (j : ℕ). tu (2 + j)) (n - 2) west
+      easts = from-zero tu n east ∙ ap (λ (x : ℕ). part (λ (j : ℕ). tu (0 + j)) x east) (two-off n l) ∙ east-further tu 0 (n - 2)
+
+      wests : part tu n west ≡ part (λ (j : ℕ). tu (2 + j)) (n - 2) east
+      wests = from-zero tu n west ∙ ap (λ (x : ℕ). part (λ (j : ℕ). tu (0 + j)) x west) (two-off n l) ∙ west-further tu 0 (n - 2)
+
+      first : part (λ (j : ℕ). tu (2 + j)) (n - 2) west ≤ tu 2
+      first = west-most tu a b n 2 (n - 2) b0 small (term-law a b n) (zero-lt-suc 1) (fits n l)
+
+      second : part (λ (j : ℕ). tu (2 + j)) (n - 2) east ≤ 2 * tu 2
+      second = east-most tu a b n 2 (n - 2) b0 small (term-law a b n) (zero-lt-suc 1) (fits n l)
+
+      drop : 2 ^ 54 * (2 * tu 2) ≤ tu 0
+      drop = third 0 (more n l)
+
+      go-under : (U t p q : ℕ) → 2 ^ 54 * (2 * t) ≤ U → q ≤ 2 * t → 2 ^ 40 * 1 * (1 * 1 * U + q * 1) ≤ 2 ^ 40 * 1 * ((U + p) * 1 + 0 * U) + 1 * (1 * U)
+      go-under U t p q h k = omega (arith, h, k)
+
+      go-over : (U t p q : ℕ) → 2 ^ 54 * (2 * t) ≤ U → p ≤ t → 2 ^ 40 * 1 * ((U + p) * 1 + 0 * U) ≤ 2 ^ 40 * 1 * (1 * 1 * U + q * 1) + 1 * (1 * U)
+      go-over U t p q h k = omega (arith, h, k)
+
+  -- the sine, with x itself as a / b
+  norths : part tu n north ≡ tu 1 + part (λ (j : ℕ). tu (3 + j)) (n - 3) west
+  norths = ap (λ (x : ℕ). part tu x north) (longer n l) ∙ from-one tu (n - 1) north refl ∙ ap (λ (x : ℕ). part (λ (j : ℕ). tu (1 + j)) x east) (three-off n l) ∙ east-further tu 1 (n - 3)
+    where
+      longer : (n : ℕ) → 600 ≤ n → n ≡ suc (n - 1)
+      longer n l = omega arith
+
+  souths : part tu n south ≡ part (λ (j : ℕ). tu (3 + j)) (n - 3) east
+  souths = ap (λ (x : ℕ). part tu x south) (longer n l) ∙ from-one tu (n - 1) south refl ∙ ap (λ (x : ℕ). part (λ (j : ℕ). tu (1 + j)) x west) (three-off n l) ∙ west-further tu 1 (n - 3)
+    where
+      longer : (n : ℕ) → 600 ≤ n → n ≡ suc (n - 1)
+      longer n l = omega arith
+
+  abbrev Ww : ℕ
+  Ww = part (λ (j : ℕ). tu (3 + j)) (n - 3) west
+
+  abbrev Ee : ℕ
+  Ee = part (λ (j : ℕ). tu (3 + j)) (n - 3) east
+
+  fits-3 : (n : ℕ) → 600 ≤ n → 3 + (n - 3) ≤ n
+  fits-3 n l = omega arith
+
+  own-first : b * (a * tu 0) ≡ b * b * tu 1
+  own-first = ap (λ (x : ℕ). b * x) (sym (ap (λ (x : ℕ). b * x) (sym (one-mul (tu 1))) ∙ term-law a b n 0 (lt-of-lt-of-le (zero-lt-suc 599) l))) ∙ sym (mul-assoc b b (tu 1))
+
+  far : 2 ^ 54 * (2 * 3 * tu 3) ≤ tu 1
+  far = third 1 (more n l)
+    where
+      more : (n : ℕ) → 600 ≤ n → 2 < n
+      more n l = omega arith
+
+  numbers : (2 ^ 40 * (b * (a * tu 0) + b * (b * Ee)) ≤ 2 ^ 40 * (b * (b * (tu 1 + Ww))) + a * (b * tu 0)) × (2 ^ 40 * (b * (b * (tu 1 + Ww))) ≤ 2 ^ 40 * (b * (a * tu 0) + b * (b * Ee)) + a * (b * tu 0))
+  numbers =
+      rw (mul-left-comm a b (tu 0), own-first, ← mul-assoc b b Ee, ← mul-assoc b b (tu 1 + Ww), mul-add (b * b) (tu 1) Ww)
+      (go (b * b * tu 1) (b * b * tu 3) (b * b * Ww) (b * b * Ee)
+      (le-trans (le-of-eq (turn (b * b) (tu 3))) (mul-le-mul-left (b * b) far))
+      (mul-le-mul-left (b * b) (west-most tu a b n 3 (n - 3) b0 small (term-law a b n) (zero-lt-suc 2) (fits-3 n l)))
+      (le-trans (mul-le-mul-left (b * b) (east-most tu a b n 3 (n - 3) b0 small (term-law a b n) (zero-lt-suc 2) (fits-3 n l))) (le-of-eq (mul-left-comm (b * b) 2 (tu 3)))))
+    where
+      turn : (B t : ℕ) → 2 ^ 54 * (6 * (B * t)) ≡ B * (2 ^ 54 * (2 * 3 * t))
+      turn B t = sym (mul-left-comm B (2 ^ 54) (6 * t) ∙ ap (λ (z : ℕ). 2 ^ 54 * z) (mul-left-comm B 6 t))
+
+      go : (v t w e : ℕ) → 2 ^ 54 * (6 * t) ≤ v → w ≤ t → e ≤ 2 * t → (2 ^ 40 * (v + e) ≤ 2 ^ 40 * (v + w) + v) × (2 ^ 40 * (v + w) ≤ 2 ^ 40 * (v + e) + v)
+      go v t w e h k m = (omega (arith, h, k, m), omega (arith, h, k, m))
+
+pub own-is : (x : Float) (n : ℕ) → Whole x → num x * 2 ^ 27 ≤ den x → 600 ≤ n → Within x (part (term (num x) (den x) n) n north) (part (term (num x) (den x) n) n south) (term (num x) (den x) n 0) (num x) (den x)
+own-is x n w t l = record {
+  number = w .number;
+  under = rw (norths (num x) (den x) n (den-pos x) t l, souths (num x) (den x) n (den-pos x) t l) (share-under (num x) (den x) _ _ (term (num x) (den x) n 0) (num x) (den x) (C.plus x) (C.less x) (w .more) (w .none) (numbers (num x) (den x) n (den-pos x) t l .0));
+  over = rw (norths (num x) (den x) n (den-pos x) t l, souths (num x) (den x) n (den-pos x) t l) (share-over (num x) (den x) _ _ (term (num x) (den x) n 0) (num x) (den x) (C.plus x) (C.less x) (w .more) (w .none) (numbers (num x) (den x) n (den-pos x) t l .1));
+}
+
+-- ---- the sine of 2 ^ -40 is not negative: the arctangent of zero
+pub zero-is : (b n : ℕ) → 600 ≤ n → NotBelow 0 b (2 ^ 18) (2 ^ 58) n
+zero-is b n l = rw (norths a₀ b₀ n (pow-pos 58) tiny l, souths a₀ b₀ n (pow-pos 58) tiny l, mul-zero (part (term a₀ b₀ n) n east), mul-zero (part (term a₀ b₀ n) n west)) (go (mul-le-mul-right b (le-trans (east-most (term a₀ b₀ n) a₀ b₀ n 3 (n - 3) (pow-pos 58) (leb→le a₀ b₀ tt) (term-law a₀ b₀ n) (zero-lt-suc 2) (fits n l)) (le-trans (sums (term a₀ b₀ n 3) (term a₀ b₀ n 1) (far a₀ b₀ n (pow-pos 58) tiny l)) (more (term a₀ b₀ n 1) (part (λ (j : ℕ). term a₀ b₀ n (3 + j)) (n - 3) west))))))
+  where
+    a₀ : ℕ
+    a₀ = 2 ^ 18
+
+    b₀ : ℕ
+    b₀ = 2 ^ 58
+
+    tiny : 2 ^ 18 * 2 ^ 27 ≤ 2 ^ 58
+    tiny = leb→le (2 ^ 18 * 2 ^ 27) (2 ^ 58) tt
+
+    fits : (n : ℕ) → 600 ≤ n → 3 + (n - 3) ≤ n
+    fits n l = omega arith
+
+    sums : (x y : ℕ) → 2 ^ 54 * (2 * 3 * x) ≤ y → 2 * x ≤ y
+    sums x y h = omega arith
+
+    more : (x y : ℕ) → x ≤ x + y
+    more x y = omega arith
+
+    go : {x y : ℕ} → x ≤ y → 0 + x ≤ y + 0
+    go h = omega (arith, h)
+
+-- ---- the cosine and the sine of 2 ^ -42
+pub step-state : (a₀ : ℕ) → a₀ * 2 ^ 27 ≤ 2 ^ 58 → (n : ℕ) → 600 ≤ n → State (term a₀ (2 ^ 58) n) (term a₀ (2 ^ 58) n 0) n (2 ^ 63) 1024 (2 ^ 63) 0 (a₀ * 2 ^ 5) 0
+step-state a₀ tiny n l = record {
+  cosine = rw (easts, wests) (go-cos (v 0) (v 2) (part (λ (j : ℕ). v (2 + j)) (n - 2) west) (part (λ (j : ℕ). v (2 + j)) (n - 2) east) (third a₀ b₀ n (pow-pos 58) tiny l 0 (more n l)) (west-most v a₀ b₀ n 2 (n - 2) (pow-pos 58) upto (term-law a₀ b₀ n) (zero-lt-suc 1) (fits-2 n l)) (east-most v a₀ b₀ n 2 (n - 2) (pow-pos 58) upto (term-law a₀ b₀ n) (zero-lt-suc 1) (fits-2 n l)));
+  sine = rw (norths a₀ b₀ n (pow-pos 58) tiny l, souths a₀ b₀ n (pow-pos 58) tiny l) (go-sin (v 0) (v 1) (v 3) (part (λ (j : ℕ). v (3 + j)) (n - 3) west) (part (λ (j : ℕ). v (3 + j)) (n - 3) east) (term-law a₀ b₀ n 0 (lt-of-lt-of-le (zero-lt-suc 599) l)) (far a₀ b₀ n (pow-pos 58) tiny l) (west-most v a₀ b₀ n 3 (n - 3) (pow-pos 58) upto (term-law a₀ b₀ n) (zero-lt-suc 2) (fits-4 n l)) (east-most v a₀ b₀ n 3 (n - 3) (pow-pos 58) upto (term-law a₀ b₀ n) (zero-lt-suc 2) (fits-4 n l)));
+}
+  where
+    b₀ : ℕ
+    b₀ = 2 ^ 58
+
+    v : ℕ → ℕ
+    v = term a₀ b₀ n
+
+    upto : a₀ ≤ b₀
+    upto = go a₀ tiny
+      where
+        go : (a : ℕ) → a * 2 ^ 27 ≤ 2 ^ 58 → a ≤ 2 ^ 58
+        go a h = omega arith
+
+    fits-2 : (n : ℕ) → 600 ≤ n → 2 + (n - 2) ≤ n
+    fits-2 n l = omega arith
+
+    fits-4 : (n : ℕ) → 600 ≤ n → 3 + (n - 3) ≤ n
+    fits-4 n l = omega arith
+
+    more : (n : ℕ) → 600 ≤ n → 1 < n
+    more n l = omega arith
+
+    two-off′ : (n : ℕ) → 600 ≤ n → n ≡ suc (suc (n - 2))
+    two-off′ n l = omega arith
+
+    easts : part v n east ≡ v 0 + part (λ (j : ℕ). v (2 + j)) (n - 2) west
+    easts = from-zero v n east ∙ ap (λ (x : ℕ). part (λ (j : ℕ). v (0 + j)) x east) (two-off′ n l) ∙ east-further v 0 (n - 2)
+
+    wests : part v n west ≡ part (λ (j : ℕ). v (2 + j)) (n - 2) east
+    wests = from-zero v n west ∙ ap (λ (x : ℕ). part (λ (j : ℕ). v (0 + j)) x west) (two-off′ n l) ∙ west-further v 0 (n - 2)
+
+    go-cos : (U t p q : ℕ) → 2 ^ 54 * (1 * 2 * t) ≤ U → p ≤ t → q ≤ 2 * t → Apart (2 ^ 63 * U) (0 * U) ((U + p) * 2 ^ 63) (q * 2 ^ 63) (1024 * U)
+    go-cos U t p q h k m = record { under = omega (arith, h, k, m); over = omega (arith, h, k, m) }
+
+    go-sin : (U w t p q : ℕ) → 2 ^ 58 * (1 * w) ≡ a₀ * U → 2 ^ 54 * (2 * 3 * t) ≤ w → p ≤ t → q ≤ 2 * t → Apart (a₀ * 2 ^ 5 * U) (0 * U) ((w + p) * 2 ^ 63) (q * 2 ^ 63) (1024 * U)
+    go-sin U w t p q e h k m = rw (mul-right-comm a₀ (2 ^ 5) U) (close (a₀ * U) (le-trans (mul-le-mul-right U upto) (le-of-eq refl)) e)
+      where
+        close : (x : ℕ) → x ≤ 2 ^ 58 * U → 2 ^ 58 * (1 * w) ≡ x → Apart (x * 2 ^ 5) (0 * U) ((w + p) * 2 ^ 63) (q * 2 ^ 63) (1024 * U)
+        close x b e = record { under = omega (arith, e, h, k, m, b); over = omega (arith, e, h, k, m, b) }

@@ -1,0 +1,46 @@
+-- `sines::low_cosine` meets its contract. Assumes nothing.
+use Prim.Native.Nat.{ℕ, _+_, _-_, _*_, _^_, _/_, _≤_, _<_}
+use native.Mathlib.Nat.{le-trans, le-of-lt, mul-le-mul, le-of-mul-le-mul-right}
+use native.Mathlib.Omega.{arith}
+use lib.Pow.{pow-pos}
+use lib.Ieee.Positive.{num, den, den-pos}
+use borrow.Author.Needs.{needs}
+use Rattle.elementary.specs.Inside.Fixed.{IsHigh}
+use Rattle.elementary.proofs.sines.Low.{cosine-low}
+use Rattle.elementary.proofs.sines.low_cosine.Statement.{statement}
+use Rattle.elementary.proofs.sines.low_cosine.Tie as tie
+
+under : (m : ℕ) → m ≤ 2 ^ 63 - 2 ^ 10 → m < 2 ^ 63
+under m h = omega arith
+
+split-requires : tie.Need-split-requires
+split-requires c κs = search needs
+
+own-square-requires : tie.Need-own-square-requires
+own-square-requires c κs = (under (c .split .result .m) (c .split .ensures .most), c .split .ensures .shift)
+
+even-sum-requires : tie.Need-even-sum-requires
+even-sum-requires c κs = c .own-square .ensures .most
+
+sum-fits : (g : ℕ) → g ≤ 2 ^ 63 → g + 1024 < 2 ^ 64
+sum-fits g h = omega arith
+
+part-fits : (g : ℕ) → g ≤ 2 ^ 63 → (g + 1024) / 2 ^ 11 < 2 ^ 53
+part-fits g h = omega arith
+
+add-parts : tie.Need-add-parts
+add-parts c = record { fits = sum-fits (c .even-sum .result) (c .even-sum .ensures .most) }
+
+parts-requires : tie.Need-parts-requires
+parts-requires c κs = part-fits (c .even-sum .result) (c .even-sum .ensures .most)
+
+returns : tie.Need-returns
+returns c =
+    let x = c .before .before .before .before .args .x in
+    let s = c .before .before .before .split in
+    let q = c .before .before .own-square in
+    let t = c .before .even-sum in
+    λ n l. cosine-low (c .parts .result) (num x) (den x) (q .result) (t .result) n (den-pos x) (s .ensures .below) (q .ensures .near (num x) (den x) (s .ensures .value)) (t .ensures) l (c .parts .ensures)
+
+pub low-cosine-spec : {M : Type 1} → statement M
+low-cosine-spec = tie.close (tie.spec split-requires own-square-requires even-sum-requires add-parts parts-requires returns)

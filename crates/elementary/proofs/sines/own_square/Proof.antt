@@ -1,0 +1,23 @@
+-- `sines::own_square` meets its contract. Assumes nothing.
+use Prim.Native.Nat.{ℕ, _*_, _/_, _^_, _≤_, _<_}
+use native.Mathlib.Nat.{le-trans, div-le-self}
+use native.Mathlib.Omega.{arith}
+use borrow.Author.Needs.{needs}
+use Rattle.elementary.proofs.sines.Alternate.{is-square}
+use Rattle.elementary.proofs.sines.own_square.Statement.{statement}
+use Rattle.elementary.proofs.sines.own_square.Tie as tie
+
+shr-y : tie.Need-shr-y
+shr-y c = search needs
+
+small : (m y : ℕ) → m < 2 ^ 63 → y ≤ m → y ≤ 5 * 2 ^ 61
+small m y h l = omega arith
+
+high-requires : tie.Need-high-requires
+high-requires c κs = (small (c .args .m) (c .args .m / 2 ^ c .args .k) (c .pre .0) (div-le-self (c .args .m) (2 ^ c .args .k)), small (c .args .m) (c .args .m / 2 ^ c .args .k) (c .pre .0) (div-le-self (c .args .m) (2 ^ c .args .k)))
+
+returns : tie.Need-returns
+returns c = is-square (c .before .args .m) (c .before .args .k) (c .high .result) (c .before .pre .0) (c .high .ensures)
+
+pub own-square-spec : {M : Type 1} → statement M
+own-square-spec = tie.close (tie.spec shr-y high-requires returns)

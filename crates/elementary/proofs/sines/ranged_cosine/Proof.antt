@@ -1,0 +1,46 @@
+-- `sines::ranged_cosine` meets its contract. Assumes nothing.
+use mathlib.Core.Path.{_≡_, refl, sym, subst}
+use mathlib.Core.Bool.{Bool, true, false}
+use Prim.Native.Nat.{ℕ, _*_, _^_, _≤_}
+use native.Mathlib.Omega.{arith}
+use lib.Dec.{T}
+use lib.IntN.{pos, negsuc}
+use lib.Ieee.{Float, fin, binary64, ofBits, lt, le}
+use lib.Ieee.Positive.{num, den, den-pos}
+use Rattle.elementary.proofs.sines.Low.{one-is}
+use Rattle.elementary.proofs.sines.Range.{tiny-of, whole-of, from-of}
+use Rattle.elementary.proofs.sines.ranged_cosine.Statement.{statement}
+use Rattle.elementary.proofs.sines.ranged_cosine.Tie as tie
+
+clash : (b : Bool) → b ≡ false → T b → ⊥
+clash true e t = absurd (subst T e tt)
+clash false e t = t
+
+under : (a b : ℕ) → a * 2 ^ 27 ≤ b → a ≤ b
+under a b h = omega arith
+
+returns : tie.Need-returns
+unfolding ofBits
+returns c =
+    let x = c .before .args .x in
+    let t = subst T (sym (c .if1 .taken)) tt in
+    (λ n l. one-is (num x) (den x) n (den-pos x) (tiny-of x (c .before .pre .0) t) l, λ k. refl)
+
+low-cosine-requires : tie.Need-low-cosine-requires
+unfolding ofBits
+low-cosine-requires c κs = (from-of (c .before .before .args .x) 0 (negsuc 26) (c .before .before .pre .0) (c .before .if1 .left), subst T (sym (c .if2 .taken)) tt)
+
+returns-2 : tie.Need-returns-2
+unfolding ofBits
+returns-2 c = (c .low-cosine .ensures, λ k. absurd (clash _ (c .before .before .if1 .left) k))
+
+far-cosine-requires : tie.Need-far-cosine-requires
+unfolding ofBits
+far-cosine-requires c κs = (from-of (c .before .before .args .x) 0 (pos 0) (c .before .before .pre .0) (c .if2 .left), c .before .before .pre .1)
+
+returns-3 : tie.Need-returns-3
+unfolding ofBits
+returns-3 c = (c .far-cosine .ensures, λ k. absurd (clash _ (c .before .before .if1 .left) k))
+
+pub ranged-cosine-spec : {M : Type 1} → statement M
+ranged-cosine-spec = tie.close (tie.spec returns low-cosine-requires returns-2 far-cosine-requires returns-3)

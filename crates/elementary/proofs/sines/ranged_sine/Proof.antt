@@ -1,0 +1,46 @@
+-- `sines::ranged_sine` meets its contract. Assumes nothing.
+use mathlib.Core.Path.{_≡_, refl, sym, subst}
+use mathlib.Core.Bool.{Bool, true, false}
+use Prim.Native.Nat.{ℕ, _*_, _^_, _≤_}
+use native.Mathlib.Omega.{arith}
+use lib.Dec.{T}
+use lib.IntN.{pos, negsuc}
+use lib.Ieee.{Float, fin, binary64, ofBits, lt, le}
+use lib.Ieee.Positive.{num, den, den-pos}
+use Rattle.elementary.proofs.sines.Low.{own-is, narrower}
+use Rattle.elementary.proofs.sines.Range.{tiny-of, whole-of, from-of}
+use Rattle.elementary.proofs.sines.ranged_sine.Statement.{statement}
+use Rattle.elementary.proofs.sines.ranged_sine.Tie as tie
+
+clash : (b : Bool) → b ≡ false → T b → ⊥
+clash true e t = absurd (subst T e tt)
+clash false e t = t
+
+under : (a b : ℕ) → a * 2 ^ 27 ≤ b → a ≤ b
+under a b h = omega arith
+
+returns : tie.Need-returns
+unfolding ofBits
+returns c =
+    let x = c .before .args .x in
+    let t = subst T (sym (c .if1 .taken)) tt in
+    (λ n l. let w = own-is x n (whole-of x (c .before .pre .0) t) (tiny-of x (c .before .pre .0) t) l in (narrower x _ _ _ (num x) (den x) (den-pos x) (under (num x) (den x) (tiny-of x (c .before .pre .0) t)) w, w), λ k. refl)
+
+low-sine-requires : tie.Need-low-sine-requires
+unfolding ofBits
+low-sine-requires c κs = (from-of (c .before .before .args .x) 0 (negsuc 26) (c .before .before .pre .0) (c .before .if1 .left), subst T (sym (c .if2 .taken)) tt)
+
+returns-2 : tie.Need-returns-2
+unfolding ofBits
+returns-2 c = (c .low-sine .ensures, λ k. absurd (clash _ (c .before .before .if1 .left) k))
+
+far-sine-requires : tie.Need-far-sine-requires
+unfolding ofBits
+far-sine-requires c κs = (from-of (c .before .before .args .x) 0 (pos 0) (c .before .before .pre .0) (c .if2 .left), c .before .before .pre .1)
+
+returns-3 : tie.Need-returns-3
+unfolding ofBits
+returns-3 c = (c .far-sine .ensures, λ k. absurd (clash _ (c .before .before .if1 .left) k))
+
+pub ranged-sine-spec : {M : Type 1} → statement M
+ranged-sine-spec = tie.close (tie.spec returns low-sine-requires returns-2 far-sine-requires returns-3)

@@ -1,0 +1,6 @@
+-- What only contracts inside the library speak of, and proofs. No reader needs it to know what an answer is.
+pub mod Fixed
+pub mod Circle
+pub mod Small
+pub mod Arctangent
+pub mod Logarithm

@@ -1,0 +1,56 @@
+-- The cosine and the sine by doubling, in units of 2 ^ -63. Definitions only.
+use Prim.Native.Nat.{ℕ, zero, suc, _+_, _-_, _*_, _/_, _%_, _^_, _≤_, _<_}
+use mathlib.Core.Path.{_≡_}
+use Rattle.elementary.specs.Series.{Quarter, east, north, west, south, back, part, term}
+use Rattle.elementary.specs.Inside.Fixed.{Apart}
+
+-- the product of two such sorted sums, sorted in its turn
+abbrev pub mix : (Quarter → ℕ) → (Quarter → ℕ) → Quarter → ℕ
+mix f g t = f east * g t + f north * g (back t) + f west * g (back (back t)) + f south * g (back (back (back t)))
+
+-- r is t * y / (n * 2 ^ 63), or less by less than 5
+pub record IsNext (t y n r : ℕ) : Type 0 where
+  pub low : r * n * 2 ^ 63 ≤ t * y
+  pub high : t * y ≤ (r * n + n + 3) * 2 ^ 63
+  pub small : r * n * 10 ≤ t
+
+-- a number by its sign (0, or 1 where it is negative) and its size, as a difference of two
+abbrev pub plus : ℕ → ℕ → ℕ
+plus zero n = n
+plus (suc k) n = 0
+
+abbrev pub less : ℕ → ℕ → ℕ
+less zero n = 0
+less (suc k) n = n
+
+-- What one doubling makes of a cosine and a sine in units of 2 ^ -63: the difference of the squares, and twice the product.
+pub record IsTurn (cn c sn s cn' c' sn' s' : ℕ) : Type 0 where
+  pub cosine : Apart (plus cn' c' * 2 ^ 63) (less cn' c' * 2 ^ 63) (c * c) (s * s) (4 * 2 ^ 63)
+  pub sign : cn' ≤ 1
+  pub sine-low : s' * 2 ^ 63 ≤ 2 * (c * s)
+  pub sine-high : 2 * (c * s) ≤ (s' + 8) * 2 ^ 63
+  pub sine-sign : sn' ≡ (cn + sn) % 2
+
+-- terms of which each is the one before times α / (β * n), up to the M-th: u n / u 0 is (α / β) ^ n / n!
+abbrev pub Law : (ℕ → ℕ) → ℕ → ℕ → ℕ → Type 0
+Law u α β M = (n : ℕ) → n < M → β * (suc n * u (suc n)) ≡ α * u n
+
+-- cp - cm and sp - sm, in units of 1 / G, are within ε of the partial sums up to N, in units of 1 / W
+pub record State (v : ℕ → ℕ) (W N G ε cp cm sp sm : ℕ) : Type 0 where
+  pub cosine : Apart (cp * W) (cm * W) (part v N east * G) (part v N west * G) (ε * W)
+  pub sine : Apart (sp * W) (sm * W) (part v N north * G) (part v N south * G) (ε * W)
+
+-- c and s are the cosine and the sine of an argument whose whole part in units of 2 ^ -63 is y, for a y of at most 200 / 2048 of that, in the same units
+pub record IsFirst (y c s : ℕ) : Type 0 where
+  pub near : (u : ℕ → ℕ) (α β M N : ℕ) → 0 < β → Law u α β M → 0 < u 0 → y * β ≤ α * 2 ^ 63 → α * 2 ^ 63 ≤ suc y * β → 12 ≤ N → N ≤ M → State u (u 0) N (2 ^ 63) 16 c 0 s 0
+  pub size : c * c + s * s ≤ 2 ^ 126 + 2 ^ 112
+
+-- the error after j doublings, in units of 2 ^ -63
+unfoldable pub error : ℕ → ℕ
+error zero = 16
+error (suc j) = 3 * error j + 9
+
+-- the same of y / 2 ^ (63 - turns), with signs, for a y of at most 200 * 2 ^ 52: the whole part of a / b * 2 ^ 52
+abbrev pub IsCircle : ℕ → ℕ → ℕ → ℕ → ℕ → ℕ → Type 0
+IsCircle y turns cn c sn s = (a b N : ℕ) → 0 < b → a ≤ 200 * b → y * b ≤ a * 2 ^ 52 → a * 2 ^ 52 ≤ suc y * b → 600 ≤ N
+    → State (term a (b * 2 ^ (11 - turns)) N) (term a (b * 2 ^ (11 - turns)) N 0) N (2 ^ 63) (error turns) (plus cn c) (less cn c) (plus sn s) (less sn s)

@@ -1,0 +1,6 @@
+pub mod Series
+pub mod Within
+pub mod Sine
+pub mod Arctangent
+pub mod Log10
+pub mod Inside

@@ -1,0 +1,41 @@
+// Whole numbers that stand for fractions, and doubles made from them.
+ghost use mathlib.Core.Path.{_≡_};
+ghost use mathlib.Core.Logic.{_⊎_};
+ghost use mathlib.Core.Bool.{false};
+ghost use Prim.Native.Nat.{_*_, _^_, _≤_, _<_};
+ghost use lib.Dec.{T};
+ghost use lib.Ieee.{le};
+ghost use lib.Ieee.Exact.{HasValue};
+ghost use Rattle.elementary.specs.Inside.Fixed.{IsHigh};
+
+// a * b / 2^63, from the halves of a and b without the product of the two lower ones.
+pub fn high(a: u64, b: u64) -> u64
+    requires { ⌜ (a ≤ 5 * 2 ^ 61) × (b ≤ 5 * 2 ^ 61) ⌝ }
+    ensures { λ r. ⌜ IsHigh a b r ⌝ }
+{
+    let a1 = a >> 32;
+    let a0 = a % 0x1_0000_0000;
+    let b1 = b >> 32;
+    let b0 = b % 0x1_0000_0000;
+    2 * (a1 * b1) + ((a1 * b0) >> 31) + ((a0 * b1) >> 31)
+}
+
+// n / 2^52 as a double.
+pub fn parts(n: u64) -> f64
+    requires { ⌜ n < 2 ^ 53 ⌝ }
+    ensures { λ r. ⌜ HasValue r false n (2 ^ 52) ⌝ }
+{
+    n as f64 / 4503599627370496.0
+}
+
+// A guess of which nothing is proved, where it lies from low to high, and low where it does not.
+pub fn guarded(guess: f64, low: f64, high: f64) -> f64
+    ensures { λ r. ⌜ (r ≡ low) ⊎ (T (le low r) × T (le r high)) ⌝ }
+{
+    if low <= guess {
+        if guess <= high {
+            return guess;
+        }
+    }
+    low
+}
