@@ -5,3 +5,4 @@ pub mod Tens
 pub mod Bridge
 pub mod Cases
 pub mod Above
+pub mod PowersOfTen

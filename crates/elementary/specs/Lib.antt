@@ -4,3 +4,4 @@ pub mod Sine
 pub mod Arctangent
 pub mod Log10
 pub mod Inside
+pub mod Examples

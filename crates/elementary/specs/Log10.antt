@@ -1,6 +1,6 @@
 -- What `log10` gives. Definitions only.
 -- A double x above zero is the fraction num x / den x, and a finite double r is (plus r - less r) / den r.
-use Prim.Native.Nat.{ℕ, zero, suc, _+_, _*_, _^_, _≤_}
+use Prim.Native.Nat.{zero, suc, _+_, _*_, _^_, _≤_}
 use mathlib.Core.Path.{_≡_}
 use mathlib.Core.Bool.{true, false}
 use lib.Dec.{T}

@@ -1,12 +1,11 @@
 // The arctangent of a double.
 ghost use mathlib.Core.Path.{_≡_};
-ghost use mathlib.Core.Bool.{false, true, Bool};
-ghost use Prim.Native.Nat.{suc, _+_, _*_, _^_, _≤_, _<_};
+ghost use mathlib.Core.Bool.{false, true};
+ghost use Prim.Native.Nat.{_+_, _*_, _^_, _≤_, _<_};
 ghost use lib.Dec.{T};
-ghost use lib.IntN.{pos, ℤ};
+ghost use lib.IntN.{pos};
 ghost use lib.Ieee as Ieee;
-ghost use lib.Ieee.{fin, inf, binary64};
-ghost use lib.Ieee.Exact.{HasValue};
+ghost use lib.Ieee.{fin, inf};
 ghost use lib.Ieee.Positive.{num, den};
 ghost use Rattle.elementary.specs.Arctangent.{IsArctangent, Arctangent};
 ghost use Rattle.elementary.specs.Inside.Arctangent.{IsFine, Above, Below, IsFurther, Good, NearlyAbove, NearlyBelow, Between, IsHalved, Found};

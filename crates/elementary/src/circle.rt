@@ -1,5 +1,5 @@
 // The cosine and the sine together, in whole numbers.
-ghost use Prim.Native.Nat.{suc, _+_, _*_, _^_, _≤_, _<_};
+ghost use Prim.Native.Nat.{_+_, _*_, _^_, _≤_, _<_};
 ghost use Rattle.elementary.specs.Inside.Circle.{IsNext, IsTurn, IsFirst, IsCircle};
 
 // the n-th term of the series from the one before it, t

@@ -1,15 +1,15 @@
 // The decimal logarithm of a double.
-ghost use mathlib.Core.Bool.{false, true, Bool};
+ghost use mathlib.Core.Bool.{false};
 ghost use mathlib.Core.Path.{_≡_};
 ghost use Prim.Native.Nat.{_+_, _-_, _*_, _^_, _≤_, _<_};
 ghost use lib.Dec.{T};
-ghost use lib.IntN.{pos, ℤ};
+ghost use lib.IntN.{pos};
 ghost use lib.Ieee as Ieee;
-ghost use lib.Ieee.{fin, inf, binary64};
+ghost use lib.Ieee.{fin, inf};
 ghost use lib.Ieee.Exact.{HasValue};
 ghost use Rattle.elementary.specs.Log10.{Log10, Near};
 ghost use Rattle.elementary.specs.Inside.Fixed.{Lies};
-ghost use Rattle.elementary.specs.Inside.Logarithm.{BinaryLog, TenLog, fine};
+ghost use Rattle.elementary.specs.Inside.Logarithm.{BinaryLog, TenLog};
 
 // The binary logarithm of m, in units of 2^-22 and cut to a whole number of them or one below that.
 // y / 2^31 lies from 1 to 2. Each turn squares it, and where the square reaches 2 the next binary

@@ -1,13 +1,13 @@
 -- The law by which the series at a sum of two arguments comes from those at the arguments: the product of the partial sums up to n, sorted by powers of i,
 -- lies in each of the four parts between the partial sums up to n and up to 2 * n at the sum. As `Doubling`, for two arguments. Assumes nothing.
-use mathlib.Core.Path.{_≡_, refl, sym, ap, _∙_, subst}
-use Prim.Native.Nat.{ℕ, zero, suc, _+_, _-_, _*_, _^_, _≤_, _<_}
-use native.Mathlib.Nat.{le-trans, le-of-eq, le-refl, add-assoc, add-comm, mul-add, add-mul, mul-comm, mul-assoc, mul-left-comm, mul-right-comm, mul-le-mul-left, zero-mul, mul-zero, mul-pos, zero-lt-suc, eq-of-mul-eq-mul-left, zero-add}
+use mathlib.Core.Path.{_≡_, sym, ap, _∙_}
+use Prim.Native.Nat.{ℕ, zero, suc, _+_, _-_, _*_, _≤_, _<_}
+use native.Mathlib.Nat.{le-trans, le-of-eq, mul-add, add-mul, mul-assoc, mul-left-comm, zero-mul, mul-zero, mul-pos, zero-lt-suc, eq-of-mul-eq-mul-left, zero-add}
 use native.Mathlib.Omega.{arith}
-use Rattle.elementary.specs.Series.{Quarter, east, north, west, south, back, start, at, sum, part}
+use Rattle.elementary.specs.Series.{Quarter, at, sum, part}
 use Rattle.elementary.specs.Inside.Circle.{mix}
 use Rattle.elementary.specs.Inside.Circle.{Law}
-use Rattle.elementary.proofs.circle.Sums.{sum-cong, sum-mono, sum-upto, sum-add, sum-times, sum-first, sum-last, triangle}
+use Rattle.elementary.proofs.circle.Sums.{sum-cong, sum-add, sum-times, sum-first, sum-last, triangle}
 use Rattle.elementary.proofs.circle.Doubling.{at-add, mix-sum-left, mix-sum-right, mix-times, triangle-under, triangle-over}
 
 abbrev product : (ℕ → ℕ) → (ℕ → ℕ) → Quarter → ℕ → ℕ → ℕ
@@ -119,7 +119,7 @@ module _ (u v : ℕ → ℕ) (α γ β M : ℕ) (B : 0 < β) (law : Law u α β 
         ∙ turned (suc k) (w (suc k)))
       where
         turned : (n x : ℕ) → unit * (β * (n * x)) ≡ β * n * (unit * x)
-        turned n x = simp (mul-assoc, mul-comm, mul-left-comm)
+        turned n x = simp (mul-assoc, mul-left-comm)
 
     weighted : (t : Quarter) (n : ℕ) → n ≤ M → sum (λ (k : ℕ). at t k * diagonal u v k) n ≡ unit * part w n t
     weighted t n h =

@@ -1,11 +1,10 @@
 -- From the cosine and the sine at one argument to those at another a little above it, by the addition theorem. Assumes nothing.
-use mathlib.Core.Path.{_≡_, refl, sym, ap, _∙_, subst}
-use Prim.Native.Nat.{ℕ, zero, suc, _+_, _-_, _*_, _/_, _%_, _^_, _≤_, _<_, zero-le}
-use native.Mathlib.Nat.{le-trans, le-of-eq, le-of-lt, le-refl, add-assoc, add-comm, add-le-add, mul-add, add-mul, mul-comm, mul-assoc, mul-left-comm, mul-right-comm, mul-le-mul, mul-le-mul-left, mul-le-mul-right, le-of-mul-le-mul-right, mul-pos, one-mul, mul-one, zero-mul, mul-zero, zero-lt-suc, pow-zero}
+use mathlib.Core.Path.{_≡_, sym, ap, _∙_, subst}
+use Prim.Native.Nat.{ℕ, _+_, _-_, _*_, _^_, _≤_, _<_}
+use native.Mathlib.Nat.{le-trans, le-of-eq, le-refl, mul-add, mul-comm, mul-assoc, mul-left-comm, mul-le-mul-left, mul-pos, one-mul, pow-zero}
 use native.Mathlib.Omega.{arith}
-use lib.Dec.{leb→le}
 use lib.Pow.{pow-pos}
-use Rattle.elementary.specs.Series.{Quarter, east, north, west, south, back, at, sum, part}
+use Rattle.elementary.specs.Series.{Quarter, east, north, west, south, at, part}
 use Rattle.elementary.specs.Inside.Circle.{mix}
 use Rattle.elementary.specs.Series.{falling, term}
 use Rattle.elementary.specs.Inside.Fixed.{Apart}
@@ -111,7 +110,7 @@ meet W G p m X Y e Q R τ cp cm ε w0 g0 prod sand near small =
             one t = simp (mul-assoc, mul-comm, mul-left-comm)
 
             two : W * G * W ≡ W * W * G
-            two = simp (mul-assoc, mul-comm, mul-left-comm)
+            two = simp (mul-assoc, mul-comm)
 
         sums : (a b c d : ℕ) → b ≤ d → a + (b + c) ≤ a + d + c
         sums a b c d h = omega arith

@@ -1,13 +1,13 @@
 -- On which side of an arctangent a number lies, by its cosine and its sine. Assumes nothing.
-use mathlib.Core.Path.{_≡_, refl, sym, ap, _∙_, subst}
-use mathlib.Core.Bool.{Bool, true, false, true≢false}
-use Prim.Native.Nat.{ℕ, zero, suc, _+_, _-_, _*_, _/_, _%_, _^_, _≤_, _<_, zero-le}
-use native.Mathlib.Nat.{le-trans, le-of-eq, le-of-lt, le-refl, lt-of-lt-of-le, lt-of-le-of-lt, add-assoc, add-comm, add-le-add, mul-add, add-mul, mul-comm, mul-assoc, mul-left-comm, mul-right-comm, mul-le-mul, mul-le-mul-left, mul-le-mul-right, le-of-mul-le-mul-right, mul-pos, one-mul, mul-one, zero-mul, suc-mul, div-mul-le-self, lt-div-mul-add}
+use mathlib.Core.Path.{_≡_, refl, sym, ap, _∙_}
+use mathlib.Core.Bool.{true, false, true≢false}
+use Prim.Native.Nat.{ℕ, suc, _+_, _-_, _*_, _/_, _^_, _≤_, _<_}
+use native.Mathlib.Nat.{le-trans, le-of-eq, le-of-lt, le-refl, add-le-add, add-mul, mul-comm, mul-assoc, mul-left-comm, mul-right-comm, mul-le-mul-left, mul-le-mul-right, le-of-mul-le-mul-right, mul-pos, one-mul, suc-mul, div-mul-le-self, lt-div-mul-add}
 use native.Mathlib.Omega.{arith}
 use lib.Dec.{leb→le}
 use Rattle.elementary.proofs.circle.Signed.{apart-wider}
 use lib.Pow.{pow-pos, pow-add, pow-mono}
-use Rattle.elementary.specs.Series.{Quarter, east, north, west, south, part}
+use Rattle.elementary.specs.Series.{east, north, west, south, part}
 use Rattle.elementary.specs.Series.{term}
 use Rattle.elementary.specs.Arctangent.{NotAbove, NotBelow, IsArctangent}
 use lib.Ieee.{Float, nan, inf, fin, up, down}
@@ -45,7 +45,7 @@ sure-above t s m e h i r a b v =
     (mul-pos (mul-pos (pow-pos 1074) (pow-pos 1074)) (pow-pos 10))
   where
     one : (w z : ℕ) → t * a * (w * z) ≡ t * (a * w) * z
-    one w z = simp (mul-assoc, mul-comm, mul-left-comm)
+    one w z = simp (mul-assoc)
 
     two : (w z : ℕ) → t * (m * w * b) * z ≡ t * (m * z) * (w * b)
     two w z = simp (mul-assoc, mul-comm, mul-left-comm)
@@ -66,7 +66,7 @@ sure-below t s m e h i r a b v =
     (mul-pos (mul-pos (pow-pos 1074) (pow-pos 1074)) (pow-pos 10))
   where
     one : (w z : ℕ) → t * a * (w * z) ≡ t * (a * w) * z
-    one w z = simp (mul-assoc, mul-comm, mul-left-comm)
+    one w z = simp (mul-assoc)
 
     two : (w z : ℕ) → t * (m * w * b) * z ≡ t * (m * z) * (w * b)
     two w z = simp (mul-assoc, mul-comm, mul-left-comm)
@@ -143,7 +143,7 @@ unsure-above t s m e h i l r a b v =
     four x y z = simp (mul-assoc, mul-comm, mul-left-comm)
 
     five : (x y : ℕ) → x * (y * b) ≡ b * (x * y)
-    five x y = simp (mul-assoc, mul-comm, mul-left-comm)
+    five x y = simp (mul-comm, mul-left-comm)
 
     upper : (h + 4) * 2 ^ 63 ≤ (t + 8) * (m * 2 ^ 10)
     upper = le-trans (le-of-eq (add-mul h 4 (2 ^ 63))) (le-trans (add-le-add (i .low) (go m l)) (le-of-eq (sym (add-mul t 8 (m * 2 ^ 10)))))

@@ -1,17 +1,17 @@
 -- The cosine and the sine of arguments up to 2, by their first terms, and what follows for the code's numbers. Assumes nothing.
 use mathlib.Core.Path.{_≡_, refl, sym, ap, _∙_, subst}
-use mathlib.Core.Logic.{_⊎_, inl, inr}
-use Prim.Native.Nat.{ℕ, zero, suc, _+_, _-_, _*_, _/_, _%_, _^_, _≤_, _<_, zero-le}
-use native.Mathlib.Nat.{le-trans, le-of-eq, le-of-lt, le-refl, lt-of-not-le, lt-irrefl, add-le-add, mul-add, add-mul, mul-comm, mul-assoc, mul-left-comm, mul-right-comm, mul-le-mul, mul-le-mul-left, mul-le-mul-right, le-of-mul-le-mul-right, le-of-mul-le-mul-left, mul-pos, one-mul, mul-one, zero-mul, zero-lt-suc, zero-add, eq-of-mul-eq-mul-left}
+use mathlib.Core.Logic.{inl, inr}
+use Prim.Native.Nat.{ℕ, suc, _+_, _-_, _*_, _^_, _≤_, _<_}
+use native.Mathlib.Nat.{le-trans, le-of-eq, le-of-lt, le-refl, lt-of-not-le, add-mul, mul-assoc, mul-le-mul, mul-le-mul-right, le-of-mul-le-mul-right, le-of-mul-le-mul-left, mul-pos, one-mul, mul-one, zero-lt-suc}
 use native.Mathlib.Decide.{decLe}
 use native.Mathlib.Omega.{arith}
 use lib.Dec.{leb→le}
 use lib.Pow.{pow-pos}
-use Rattle.elementary.specs.Series.{Quarter, east, north, west, south, back, at, sum, part}
+use Rattle.elementary.specs.Series.{east, north, west, south, at, sum, part}
 use Rattle.elementary.specs.Series.{term}
 use Rattle.elementary.specs.Arctangent.{NotBelow}
 use Rattle.elementary.specs.Inside.Fixed.{Apart}
-use Rattle.elementary.specs.Inside.Circle.{State, Law, IsCircle, error, plus, less}
+use Rattle.elementary.specs.Inside.Circle.{State, IsCircle, error, plus, less}
 use Rattle.elementary.specs.Inside.Arctangent.{Good}
 use Rattle.elementary.proofs.circle.Sums.{sum-upto}
 use Rattle.elementary.proofs.circle.Terms.{term-law, ratio, halves, gain}

@@ -1,13 +1,13 @@
 -- The first cosine and sine, by twelve terms of the series. Assumes nothing.
-use mathlib.Core.Path.{_≡_, refl, sym, ap, _∙_, subst}
-use Prim.Native.Nat.{ℕ, zero, suc, _+_, _-_, _*_, _/_, _%_, _^_, _≤_, _<_}
-use native.Mathlib.Nat.{le-trans, le-of-eq, le-of-lt, le-refl, add-assoc, add-comm, add-le-add, mul-add, add-mul, mul-comm, mul-assoc, mul-left-comm, mul-le-mul, mul-le-mul-left, mul-le-mul-right, le-of-mul-le-mul-right, le-of-mul-le-mul-left, mul-pos, zero-lt-suc, one-mul, mul-one, zero-mul, pow-zero, mul-suc, eq-of-mul-eq-mul-left}
+use mathlib.Core.Path.{_≡_, sym, ap, _∙_, subst}
+use Prim.Native.Nat.{ℕ, suc, _+_, _-_, _*_, _^_, _≤_, _<_}
+use native.Mathlib.Nat.{le-trans, le-of-eq, le-refl, add-assoc, add-le-add, mul-add, add-mul, mul-comm, mul-assoc, mul-left-comm, mul-le-mul, mul-le-mul-left, mul-le-mul-right, le-of-mul-le-mul-right, le-of-mul-le-mul-left, mul-pos, zero-lt-suc, one-mul, mul-one, zero-mul, mul-suc}
 use native.Mathlib.Omega.{arith}
 use lib.Pow.{pow-pos}
 use lib.Dec.{leb→le}
 use Rattle.elementary.specs.Series.{Quarter, east, north, west, south, at, sum, part}
 use Rattle.elementary.specs.Inside.Fixed.{Apart}
-use Rattle.elementary.specs.Inside.Circle.{Law, State, IsNext, IsFirst}
+use Rattle.elementary.specs.Inside.Circle.{Law, State, IsNext}
 use Rattle.elementary.proofs.circle.Terms.{factorial, bounded, halves, gain}
 use Rattle.elementary.proofs.circle.Sums.{sum-upto}
 
@@ -92,7 +92,7 @@ term-one u α β M y b law h e e′ = record {
 }
   where
     turn : (z w : ℕ) → β * (z * w) ≡ z * β * w
-    turn z w = simp (mul-assoc, mul-comm, mul-left-comm)
+    turn z w = simp (mul-assoc, mul-comm)
 
     is : α * 2 ^ 63 * u 0 ≡ β * (u 1 * 2 ^ 63)
     is = mul-assoc α (2 ^ 63) (u 0) ∙ ap (λ (x : ℕ). α * x) (mul-comm (2 ^ 63) (u 0)) ∙ sym (mul-assoc α (u 0) (2 ^ 63)) ∙ ap (λ (x : ℕ). x * 2 ^ 63) (sym (law 0 h) ∙ ap (λ (x : ℕ). β * x) (one-mul (u 1))) ∙ mul-assoc β (u 1) (2 ^ 63)

@@ -1,10 +1,10 @@
 -- The law by which the series at twice an argument comes from the one at the argument: the square of the partial sum up to n, sorted by powers of i,
 -- lies in each of the four parts between the partial sums up to n and up to 2 * n at twice the argument. There is no subtraction in it and no limit. Assumes nothing.
-use mathlib.Core.Path.{_≡_, refl, sym, ap, _∙_, subst}
+use mathlib.Core.Path.{_≡_, refl, sym, ap, _∙_}
 use Prim.Native.Nat.{ℕ, zero, suc, _+_, _-_, _*_, _^_, _≤_, _<_}
-use native.Mathlib.Nat.{le-trans, le-of-eq, le-refl, add-assoc, add-comm, mul-add, add-mul, mul-comm, mul-assoc, mul-left-comm, mul-right-comm, mul-le-mul-left, zero-mul, mul-zero, mul-pos, zero-lt-suc, eq-of-mul-eq-mul-left, suc-add, zero-add, pow-suc, pow-zero, one-mul, mul-one}
+use native.Mathlib.Nat.{le-trans, le-of-eq, mul-add, add-mul, mul-comm, mul-assoc, mul-left-comm, zero-mul, mul-zero, mul-pos, zero-lt-suc, eq-of-mul-eq-mul-left, suc-add, zero-add, pow-suc, pow-zero, one-mul}
 use native.Mathlib.Omega.{arith}
-use Rattle.elementary.specs.Series.{Quarter, east, north, west, south, back, start, at, sum, part}
+use Rattle.elementary.specs.Series.{Quarter, east, north, west, south, back, at, sum, part}
 use Rattle.elementary.specs.Inside.Circle.{mix}
 use Rattle.elementary.proofs.circle.Sums.{sum-cong, sum-mono, sum-upto, sum-add, sum-times, sum-first, sum-last, triangle}
 
@@ -196,7 +196,7 @@ module _ (u : ℕ → ℕ) (α β M : ℕ) (B : 0 < β) (law : (n : ℕ) → n <
       twice w p v = simp (mul-assoc, mul-comm, mul-left-comm) (omega arith)
 
       turned : (w p n v : ℕ) → w * p * (β * (n * v)) ≡ β * n * (w * (p * v))
-      turned w p n v = simp (mul-assoc, mul-comm, mul-left-comm)
+      turned w p n v = simp (mul-assoc, mul-left-comm)
 
   -- the partial sums at twice the argument
   abbrev doubled : ℕ → ℕ

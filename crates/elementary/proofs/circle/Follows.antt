@@ -1,14 +1,14 @@
 -- The loop's invariant: after j doublings. Assumes nothing.
 use mathlib.Core.Path.{_≡_, refl, sym, ap, _∙_, subst}
-use mathlib.Core.Bool.{Bool, true, false, _&&_}
+use mathlib.Core.Bool.{Bool, _&&_}
 use Prim.Native.Nat.{ℕ, zero, suc, _+_, _-_, _*_, _/_, _%_, _^_, _≤_, _<_}
-use native.Mathlib.Nat.{le-trans, le-of-eq, le-of-lt, le-refl, lt-of-not-le, add-assoc, add-comm, add-le-add, mul-add, add-mul, mul-comm, mul-assoc, mul-left-comm, mul-le-mul, mul-le-mul-left, mul-le-mul-right, le-of-mul-le-mul-right, mul-pos, le-div-iff-mul-le, zero-lt-suc, pow-suc, pow-zero, one-mul, mul-one, one-le-pow, eq-of-mul-eq-mul-left, eq-of-mul-eq-mul-right}
+use native.Mathlib.Nat.{le-trans, le-of-eq, lt-of-not-le, mul-add, add-mul, mul-comm, mul-assoc, mul-left-comm, mul-le-mul, mul-le-mul-left, mul-le-mul-right, mul-pos, le-div-iff-mul-le, zero-lt-suc, pow-suc, pow-zero, mul-one, eq-of-mul-eq-mul-left}
 use native.Mathlib.Decide.{decLe}
 use native.Mathlib.Omega.{arith}
 use lib.Pow.{pow-pos, pow-mono, pow-add}
 use lib.Dec.{T, leb, leb→le}
 use lib.Ieee.Fits.{and-l, and-r}
-use Rattle.elementary.specs.Series.{Quarter, east, north, west, south, at, sum, part}
+use Rattle.elementary.specs.Series.{Quarter, east, north, west, south, at, part}
 use Rattle.elementary.specs.Series.{falling, term}
 use Rattle.elementary.specs.Inside.Fixed.{Apart}
 use Rattle.elementary.specs.Inside.Circle.{Law, State, IsFirst, IsTurn, IsCircle, error, plus, less}
@@ -122,7 +122,7 @@ next-squares c s p h j k =
     one x = go (2 ^ 63) ∙ refl
       where
         go : (g : ℕ) → x * g * (x * g) ≡ x * x * (g * g)
-        go g = simp (mul-assoc, mul-comm, mul-left-comm)
+        go g = simp (mul-assoc, mul-left-comm)
 
     more : (a b : ℕ) → a ≤ b → a + 4 * 2 ^ 63 ≤ b + 4 * 2 ^ 63
     more a b l = omega arith
@@ -217,7 +217,7 @@ law-at a b N j p J k h =
     all j J = omega arith
 
     turn : (q b r w : ℕ) → q * (b * r * w) ≡ b * (q * r) * w
-    turn q b r w = simp (mul-assoc, mul-comm, mul-left-comm)
+    turn q b r w = simp (mul-assoc, mul-left-comm)
 
 pub part-scaled : (u v : ℕ → ℕ) (N : ℕ) (t : Quarter) (x y : ℕ) → ((k : ℕ) → k ≤ N → u k * x ≡ v k * y) → x * part u N t ≡ y * part v N t
 part-scaled u v N t x y h =
@@ -226,13 +226,13 @@ part-scaled u v N t x y h =
     ∙ sym (sum-times y (λ (k : ℕ). at t k * v k) N)
   where
     turn : (c w z : ℕ) → z * (c * w) ≡ c * (w * z)
-    turn c w z = simp (mul-assoc, mul-comm, mul-left-comm)
+    turn c w z = simp (mul-comm, mul-left-comm)
 
 pub carry : (W X G p m P Q P' Q' e : ℕ) → 0 < W → X * P ≡ W * P' → X * Q ≡ W * Q' → Apart (p * W) (m * W) (P * G) (Q * G) (e * W) → Apart (p * X) (m * X) (P' * G) (Q' * G) (e * X)
 carry W X G p m P Q P' Q' e w h k a = apart-cancel W w (rw (own p, own m, own e, other P P' h, other Q Q' k) at (apart-times X a))
   where
     own : (x : ℕ) → X * (x * W) ≡ W * (x * X)
-    own x = simp (mul-assoc, mul-comm, mul-left-comm)
+    own x = simp (mul-comm, mul-left-comm)
 
     other : (x x' : ℕ) → X * x ≡ W * x' → X * (x * G) ≡ W * (x' * G)
     other x x' q = sym (mul-assoc X x G) ∙ ap (λ (z : ℕ). z * G) q ∙ mul-assoc W x' G

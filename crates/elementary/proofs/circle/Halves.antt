@@ -1,7 +1,7 @@
 -- The upper half of a product, and a term from it. Assumes nothing.
-use mathlib.Core.Path.{_≡_, refl, sym, ap, _∙_, subst}
-use Prim.Native.Nat.{ℕ, zero, suc, _+_, _-_, _*_, _/_, _%_, _^_, _≤_, _<_}
-use native.Mathlib.Nat.{le-trans, le-of-eq, le-of-lt, lt-of-lt-of-le, lt-of-le-of-lt, add-assoc, add-comm, mul-add, add-mul, mul-comm, mul-assoc, mul-left-comm, mul-le-mul, mul-le-mul-left, mul-le-mul-right, le-of-mul-le-mul-right, div-mul-le-self, lt-div-mul-add}
+use mathlib.Core.Path.{_≡_, sym, ap, _∙_}
+use Prim.Native.Nat.{ℕ, _+_, _*_, _/_, _%_, _^_, _≤_, _<_}
+use native.Mathlib.Nat.{le-trans, le-of-eq, le-of-lt, mul-add, add-mul, mul-comm, mul-assoc, mul-left-comm, mul-le-mul, mul-le-mul-left, mul-le-mul-right, le-of-mul-le-mul-right, div-mul-le-self, lt-div-mul-add}
 use native.Mathlib.Omega.{arith}
 use Rattle.elementary.specs.Inside.Fixed.{IsHigh}
 use Rattle.elementary.specs.Inside.Circle.{IsNext}
@@ -14,13 +14,13 @@ halves : (a1 a0 b1 b0 : ℕ) → (a1 * 2 ^ 32 + a0) * (b1 * 2 ^ 32 + b0) ≡ a1 
 halves a1 a0 b1 b0 = rw (add-mul (a1 * 2 ^ 32) a0 (b1 * 2 ^ 32 + b0), mul-add (a1 * 2 ^ 32) (b1 * 2 ^ 32) b0, mul-add a0 (b1 * 2 ^ 32) b0, one a1 b1, two a1 b0, two' a0 b1) (go (a1 * b1) (a1 * b0) (a0 * b1) (a0 * b0))
   where
     one : (x y : ℕ) → x * 2 ^ 32 * (y * 2 ^ 32) ≡ x * y * 2 ^ 64
-    one x y = simp (mul-assoc, mul-comm, mul-left-comm) (omega arith)
+    one x y = simp (mul-assoc, mul-left-comm) (omega arith)
 
     two : (x y : ℕ) → x * 2 ^ 32 * y ≡ x * y * 2 ^ 32
-    two x y = simp (mul-assoc, mul-comm, mul-left-comm)
+    two x y = simp (mul-assoc, mul-comm)
 
     two' : (x y : ℕ) → x * (y * 2 ^ 32) ≡ x * y * 2 ^ 32
-    two' x y = simp (mul-assoc, mul-comm, mul-left-comm)
+    two' x y = simp (mul-assoc)
 
     go : (p q r s : ℕ) → p * 2 ^ 64 + q * 2 ^ 32 + (r * 2 ^ 32 + s) ≡ p * 2 ^ 64 + (q + r) * 2 ^ 32 + s
     go p q r s = omega arith

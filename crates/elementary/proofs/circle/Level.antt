@@ -1,11 +1,11 @@
 -- One doubling: how far the rounded cosine and sine are from the series at twice the argument. Assumes nothing.
 -- The code's numbers are in units of 1 / G, the partial sums in units of 1 / W. A number that may be negative is a difference of two.
-use mathlib.Core.Path.{_≡_, refl, sym, ap, _∙_, subst}
-use Prim.Native.Nat.{ℕ, zero, suc, _+_, _-_, _*_, _^_, _≤_, _<_}
-use native.Mathlib.Nat.{le-trans, le-of-eq, add-assoc, add-comm, mul-add, add-mul, mul-comm, mul-assoc, mul-left-comm, mul-le-mul, mul-le-mul-left, mul-le-mul-right, mul-pos}
+use mathlib.Core.Path.{_≡_, sym, ap, _∙_}
+use Prim.Native.Nat.{ℕ, _+_, _*_, _≤_, _<_}
+use native.Mathlib.Nat.{le-trans, le-of-eq, mul-add, add-mul, mul-comm, mul-assoc, mul-left-comm, mul-le-mul-left, mul-pos}
 use native.Mathlib.Omega.{arith}
 use Rattle.elementary.specs.Inside.Fixed.{Apart}
-use Rattle.elementary.proofs.circle.Signed.{apart-trans, apart-add, apart-swap, apart-wider, apart-times, apart-cancel, apart-mul}
+use Rattle.elementary.proofs.circle.Signed.{apart-trans, apart-add, apart-wider, apart-times, apart-cancel, apart-mul}
 
 one : (w x y : ℕ) → x * w * (y * w) ≡ w * w * (x * y)
 one w x y = simp (mul-assoc, mul-comm, mul-left-comm)

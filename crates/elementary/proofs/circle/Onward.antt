@@ -1,19 +1,18 @@
 -- The state of the computation after j doublings, and how one more doubling changes it. Assumes nothing.
 use mathlib.Core.Path.{_≡_, refl, sym, ap, _∙_, subst}
 use Prim.Native.Nat.{ℕ, zero, suc, _+_, _-_, _*_, _^_, _≤_, _<_}
-use native.Mathlib.Nat.{le-trans, le-of-eq, le-refl, add-assoc, add-comm, mul-add, add-mul, mul-comm, mul-assoc, mul-left-comm, mul-le-mul, mul-le-mul-left, mul-le-mul-right, le-of-mul-le-mul-left, mul-pos, pow-suc, pow-zero, one-mul, mul-one, zero-lt-suc, one-le-pow}
+use native.Mathlib.Nat.{le-trans, le-of-eq, le-refl, mul-add, mul-comm, mul-assoc, mul-le-mul-left, mul-le-mul-right, le-of-mul-le-mul-left, mul-pos, pow-suc, pow-zero, one-mul, mul-one, zero-lt-suc, one-le-pow}
 use native.Mathlib.Omega.{arith}
 use Rattle.elementary.specs.Inside.Fixed.{Apart}
 use Rattle.elementary.specs.Inside.Circle.{Law, State}
 use lib.Dec.{leb→le}
-use lib.Pow.{pow-pos, pow-mono}
-use Rattle.elementary.specs.Series.{Quarter, east, north, west, south, back, at, sum, part}
+use lib.Pow.{pow-pos}
+use Rattle.elementary.specs.Series.{Quarter, east, north, west, south, part}
 use Rattle.elementary.specs.Inside.Circle.{mix}
-use Rattle.elementary.specs.Series.{falling, term}
-use Rattle.elementary.proofs.circle.Signed.{apart-swap, apart-wider}
+use Rattle.elementary.proofs.circle.Signed.{apart-swap}
 use Rattle.elementary.proofs.circle.Level.{product, gather, finish}
 use Rattle.elementary.proofs.circle.Doubling.{double-low, double-high}
-use Rattle.elementary.proofs.circle.Terms.{level, level-law, level-zero, term-law, factorial, bounded, halves, gain}
+use Rattle.elementary.proofs.circle.Terms.{factorial, bounded, halves, gain}
 
 -- ---- from the 600-th term on, at arguments up to 200
 many : 200 ^ 600 * 2 ^ 63 ≤ factorial 600

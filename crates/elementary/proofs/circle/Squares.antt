@@ -1,13 +1,13 @@
 -- What a doubling does to the sizes, and how the code's step follows from its three products. Assumes nothing.
-use mathlib.Core.Path.{_≡_, refl, sym, ap, _∙_, subst}
-use Prim.Native.Nat.{ℕ, zero, suc, _+_, _-_, _*_, _/_, _%_, _^_, _≤_, _<_}
-use native.Mathlib.Nat.{le-trans, le-of-eq, le-of-lt, le-refl, lt-irrefl, lt-of-lt-of-le, lt-of-le-of-lt, lt-of-not-le, add-assoc, add-comm, add-le-add, mul-add, add-mul, mul-comm, mul-assoc, mul-left-comm, mul-le-mul, mul-le-mul-left, mul-le-mul-right, le-of-mul-le-mul-right, mul-pos}
+use mathlib.Core.Path.{_≡_, refl, ap}
+use Prim.Native.Nat.{ℕ, suc, _+_, _-_, _*_, _%_, _^_, _≤_, _<_}
+use native.Mathlib.Nat.{le-trans, le-of-eq, le-of-lt, lt-irrefl, lt-of-lt-of-le, lt-of-not-le, add-comm, mul-add, add-mul, mul-comm, mul-assoc, mul-le-mul, mul-le-mul-left, le-of-mul-le-mul-right}
 use native.Mathlib.Decide.{decLe}
 use native.Mathlib.Omega.{arith}
 use lib.Pow.{pow-pos}
 use lib.Dec.{leb→le}
 use Rattle.elementary.specs.Inside.Fixed.{Apart, IsHigh}
-use Rattle.elementary.specs.Inside.Circle.{IsTurn, plus, less}
+use Rattle.elementary.specs.Inside.Circle.{IsTurn}
 
 -- 2 * c * s ≤ c ^ 2 + s ^ 2
 pub twice-le : (c s : ℕ) → 2 * (c * s) ≤ c * c + s * s

@@ -1,15 +1,12 @@
 -- From the code's step to `Rounded`, and the bounds of size and of error that hold through all doublings. Assumes nothing.
-use mathlib.Core.Path.{_≡_, refl, sym, ap, _∙_, subst}
-use Prim.Native.Nat.{ℕ, zero, suc, _+_, _-_, _*_, _/_, _%_, _^_, _≤_, _<_}
-use native.Mathlib.Nat.{le-trans, le-of-eq, le-of-lt, le-refl, lt-irrefl, lt-of-lt-of-le, lt-of-not-le, add-assoc, add-comm, add-le-add, mul-add, add-mul, mul-comm, mul-assoc, mul-left-comm, mul-le-mul, mul-le-mul-left, mul-le-mul-right, le-of-mul-le-mul-right, mul-pos, le-div-iff-mul-le, zero-mul, mul-zero}
+use mathlib.Core.Path.{_≡_, refl, sym, ap, _∙_}
+use Prim.Native.Nat.{ℕ, zero, suc, _+_, _-_, _*_, _%_, _^_, _≤_}
+use native.Mathlib.Nat.{le-trans, le-of-eq, le-of-lt, le-refl, lt-of-not-le, add-comm, add-le-add, mul-add, add-mul, mul-comm, mul-assoc, mul-left-comm, mul-le-mul, mul-le-mul-left, mul-le-mul-right, zero-mul, mul-zero}
 use native.Mathlib.Decide.{decLe}
 use native.Mathlib.Omega.{arith}
-use lib.Pow.{pow-pos}
-use lib.Dec.{leb→le}
-use Rattle.elementary.specs.Inside.Fixed.{Apart, IsHigh}
+use Rattle.elementary.specs.Inside.Fixed.{Apart}
 use Rattle.elementary.specs.Inside.Circle.{IsTurn, plus, less}
 use Rattle.elementary.proofs.circle.Onward.{Rounded}
-use Rattle.elementary.proofs.circle.Squares.{twice-le, root-small}
 
 -- ---- the signs
 -- squares do not see them
@@ -109,10 +106,10 @@ grown x z X Y k d h l q r =
     sums a b c e f g u v = omega arith
 
 product-square : (c s z : ℕ) → z ≤ 2 * (c * s) → z * z ≤ 4 * (c * c * (s * s))
-product-square c s z h = le-trans (mul-le-mul h h) (le-of-eq (turn (c * s) ∙ ap (λ (x : ℕ). 4 * x) (simp (mul-assoc, mul-comm, mul-left-comm))))
+product-square c s z h = le-trans (mul-le-mul h h) (le-of-eq (turn (c * s) ∙ ap (λ (x : ℕ). 4 * x) (simp (mul-assoc, mul-left-comm))))
   where
     turn : (x : ℕ) → 2 * x * (2 * x) ≡ 4 * (x * x)
-    turn x = simp (mul-assoc, mul-comm, mul-left-comm) (omega arith)
+    turn x = simp (mul-assoc, mul-left-comm) (omega arith)
 
 pub sizes : (cn c sn s cn' c' sn' s' : ℕ) → IsTurn cn c sn s cn' c' sn' s' → c' * 2 ^ 63 * (c' * 2 ^ 63) + s' * 2 ^ 63 * (s' * 2 ^ 63) ≤ (c * c + s * s + 4 * 2 ^ 63) * (c * c + s * s + 4 * 2 ^ 63)
 sizes cn c sn s zero c' sn' s' t = grown (c' * 2 ^ 63) (s' * 2 ^ 63) (c * c) (s * s) (4 * 2 ^ 63) (c * c - s * s) (near (c' * 2 ^ 63) (c * c) (s * s) (t .cosine .under)) (within (c * c) (s * s)) (either (c * c) (s * s)) (product-square c s (s' * 2 ^ 63) (t .sine-low))

@@ -1,7 +1,7 @@
 -- Laws of sums. Assumes nothing.
 use mathlib.Core.Path.{_≡_, refl, sym, ap, _∙_, subst}
-use Prim.Native.Nat.{ℕ, zero, suc, _+_, _-_, _*_, _^_, _≤_, _<_}
-use native.Mathlib.Nat.{le-trans, le-of-eq, le-refl, add-assoc, add-comm, add-le-add, mul-add, add-mul, mul-comm, mul-assoc, mul-left-comm, mul-le-mul-left, zero-mul, mul-zero}
+use Prim.Native.Nat.{ℕ, zero, suc, _+_, _-_, _*_, _≤_}
+use native.Mathlib.Nat.{le-trans, le-of-eq, le-refl, add-assoc, add-le-add, mul-add}
 use native.Mathlib.Omega.{arith}
 use Rattle.elementary.specs.Series.{sum}
 

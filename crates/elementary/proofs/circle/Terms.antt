@@ -1,9 +1,8 @@
 -- The terms of the series: each from the one before, at each power of 2 of the argument, and how small they are. Assumes nothing.
 use mathlib.Core.Path.{_≡_, refl, sym, ap, _∙_, subst}
 use Prim.Native.Nat.{ℕ, zero, suc, _+_, _-_, _*_, _^_, _≤_, _<_}
-use native.Mathlib.Nat.{le-trans, le-of-eq, le-refl, add-assoc, add-comm, mul-add, add-mul, mul-comm, mul-assoc, mul-left-comm, mul-le-mul, mul-le-mul-left, mul-le-mul-right, le-of-mul-le-mul-left, mul-pos, pow-suc, pow-zero, one-mul, mul-one, zero-lt-suc, eq-of-mul-eq-mul-left}
+use native.Mathlib.Nat.{le-trans, le-of-eq, mul-comm, mul-assoc, mul-left-comm, mul-le-mul-left, mul-le-mul-right, le-of-mul-le-mul-left, mul-pos, pow-suc, pow-zero, one-mul, zero-lt-suc, eq-of-mul-eq-mul-left}
 use native.Mathlib.Omega.{arith}
-use lib.Pow.{pow-pos}
 use Rattle.elementary.specs.Series.{Quarter, east, north, west, south, back, at, sum, part}
 use Rattle.elementary.specs.Series.{falling, term}
 use Rattle.elementary.specs.Inside.Circle.{Law}
@@ -85,10 +84,10 @@ module _ (u : ℕ → ℕ) (α β M ρ σ : ℕ) (B : 0 < β) (law : Law u α β
       B
     where
       turn : (v : ℕ) → σ * (α * v) ≡ α * σ * v
-      turn v = simp (mul-assoc, mul-comm, mul-left-comm)
+      turn v = simp (mul-assoc, mul-left-comm)
 
       turn′ : (v : ℕ) → ρ * β * v ≡ β * (ρ * v)
-      turn′ v = simp (mul-assoc, mul-comm, mul-left-comm)
+      turn′ v = simp (mul-assoc, mul-comm)
 
   pub bounded : (k : ℕ) → k ≤ M → σ ^ k * factorial k * u k ≤ ρ ^ k * u 0
   unfolding factorial
@@ -104,7 +103,7 @@ module _ (u : ℕ → ℕ) (α β M ρ σ : ℕ) (B : 0 < β) (law : Law u α β
       turn s f v = simp (mul-assoc, mul-comm, mul-left-comm)
 
       turn′ : (r v : ℕ) → ρ * (r * v) ≡ r * ρ * v
-      turn′ r v = simp (mul-assoc, mul-comm, mul-left-comm)
+      turn′ r v = simp (mul-assoc, mul-comm)
 
   -- from where on each is at most half of the one before
   pub halves : (k : ℕ) → k < M → 0 < ρ → 2 * ρ ≤ σ * suc k → 2 * u (suc k) ≤ u k
@@ -114,7 +113,7 @@ module _ (u : ℕ → ℕ) (α β M ρ σ : ℕ) (B : 0 < β) (law : Law u α β
       r
     where
       turn : (v : ℕ) → ρ * (2 * v) ≡ 2 * ρ * v
-      turn v = simp (mul-assoc, mul-comm, mul-left-comm)
+      turn v = simp (mul-assoc, mul-left-comm)
 
 -- ---- what a partial sum gains by more terms
 at-le : (t : Quarter) (k : ℕ) → at t k ≤ 1

@@ -1,5 +1,5 @@
 -- A whole number over a power of 2, as a double. Assumes nothing.
-use mathlib.Core.Path.{_≡_, refl, sym, ap, _∙_, subst}
+use mathlib.Core.Path.{_≡_, sym, ap, _∙_, subst}
 use mathlib.Core.Bool.{Bool, true, false, not, cond, true≢false}
 use Prim.Native.Nat.{ℕ, zero, suc, _+_, _-_, _*_, _^_, _≤_, _<_}
 use native.Mathlib.Nat.{mul-comm, mul-one, mul-assoc, mul-left-comm, mul-pos, lt-of-lt-of-le, zero-lt-suc, zero-mul}

@@ -1,7 +1,7 @@
 -- Logarithms by squaring: `A` is m to the power 2 ^ i, and y * 2 ^ k / 2 ^ 31 is close to it from below. Assumes nothing.
 use mathlib.Core.Path.{_≡_, refl, sym, ap, _∙_, subst}
-use Prim.Native.Nat.{ℕ, zero, suc, _+_, _-_, _*_, _/_, _^_, _≤_, _<_}
-use native.Mathlib.Nat.{le-trans, le-of-eq, le-of-lt, mul-le-mul, mul-le-mul-right, mul-le-mul-left, mul-assoc, mul-comm, mul-left-comm, mul-pos, le-of-mul-le-mul-right, pow-zero, pow-suc, two-pow-succ, one-mul}
+use Prim.Native.Nat.{ℕ, zero, suc, _+_, _*_, _/_, _^_, _≤_, _<_}
+use native.Mathlib.Nat.{le-trans, le-of-eq, mul-le-mul, mul-le-mul-right, mul-le-mul-left, mul-assoc, mul-comm, mul-left-comm, mul-pos, le-of-mul-le-mul-right, pow-zero, pow-suc, two-pow-succ, one-mul}
 use native.Mathlib.Omega.{arith}
 use lib.Pow.{pow-add, pow-pos, pow-mono}
 use Rattle.elementary.specs.Inside.Logarithm.{fine, BinaryLog}
@@ -21,10 +21,10 @@ lower A y z c d h C p q =
     left = simp (mul-assoc, mul-comm, mul-left-comm)
 
     mid : y * y * (d * d) ≡ y * d * (y * d)
-    mid = simp (mul-assoc, mul-comm, mul-left-comm)
+    mid = simp (mul-assoc, mul-left-comm)
 
     right : A * c * (A * c) ≡ A * A * c * c
-    right = simp (mul-assoc, mul-comm, mul-left-comm)
+    right = simp (mul-assoc, mul-left-comm)
 
 -- p and q are powers of P and Q, by whose quotient a turn may fall short
 upper : (A y z c d h p q P Q : ℕ) → 0 < c → A * c * p ≤ y * d * q → y * y * P ≤ z * (c * h) * Q → A * A * c * (p * p * P) ≤ z * (d * d * h) * (q * q * Q)

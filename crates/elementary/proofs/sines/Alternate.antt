@@ -1,13 +1,13 @@
 -- The series of a square, from its end inwards: each step takes a multiple of what comes after from 1. Assumes nothing.
-use mathlib.Core.Path.{_≡_, refl, sym, ap, _∙_, subst}
-use Prim.Native.Nat.{ℕ, zero, suc, _+_, _-_, _*_, _/_, _%_, _^_, _≤_, _<_, zero-le}
-use native.Mathlib.Nat.{le-trans, le-of-eq, le-of-lt, le-refl, add-assoc, add-comm, add-le-add, mul-add, add-mul, mul-comm, mul-assoc, mul-left-comm, mul-le-mul, mul-le-mul-left, mul-le-mul-right, le-of-mul-le-mul-right, le-of-mul-le-mul-left, mul-pos, zero-lt-suc, one-mul, mul-one, zero-mul, mul-suc, suc-mul, mul-right-comm, div-mul-le-self, lt-div-mul-add, div-le-self, lt-of-le-of-lt}
+use mathlib.Core.Path.{_≡_, sym, ap, _∙_, subst}
+use Prim.Native.Nat.{ℕ, suc, _+_, _-_, _*_, _/_, _^_, _≤_, _<_, zero-le}
+use native.Mathlib.Nat.{le-trans, le-of-eq, le-of-lt, le-refl, add-le-add, mul-add, add-mul, mul-comm, mul-assoc, mul-left-comm, mul-le-mul, mul-le-mul-left, mul-le-mul-right, le-of-mul-le-mul-right, le-of-mul-le-mul-left, mul-pos, zero-lt-suc, mul-one, zero-mul, mul-suc, suc-mul, mul-right-comm, div-mul-le-self, lt-div-mul-add, div-le-self, lt-of-le-of-lt}
 use native.Mathlib.Omega.{arith}
 use lib.Pow.{pow-pos}
 use Rattle.elementary.specs.Series.{Quarter, east, north, west, south, start, back, at, sum, part}
 use Rattle.elementary.specs.Inside.Fixed.{Apart, IsHigh}
 use Rattle.elementary.specs.Inside.Circle.{Law}
-use Rattle.elementary.specs.Inside.Small.{IsRoot, IsSquare, IsDown, Alternating}
+use Rattle.elementary.specs.Inside.Small.{IsSquare, IsDown, Alternating}
 use Rattle.elementary.proofs.circle.Terms.{halves, gain}
 use Rattle.elementary.proofs.circle.Sums.{sum-first, sum-upto, sum-cong}
 
@@ -21,10 +21,10 @@ two-law u a b M k law h =
     ∙ sym (mul-assoc a a (u k))
   where
     one : (m n v : ℕ) → b * b * (m * n * v) ≡ b * m * (b * (n * v))
-    one m n v = simp (mul-assoc, mul-comm, mul-left-comm)
+    one m n v = simp (mul-assoc, mul-left-comm)
 
     two : (m v : ℕ) → b * m * (a * v) ≡ a * (b * (m * v))
-    two m v = simp (mul-assoc, mul-comm, mul-left-comm)
+    two m v = simp (mul-assoc, mul-left-comm)
 
     less : (k M : ℕ) → suc k < M → k < M
     less k M h = omega arith
@@ -139,7 +139,7 @@ module _ (G A B U Z q g h n : ℕ) (g0 : 0 < G) (b0 : 0 < B) (n2 : 2 ≤ n) (law
       a)
     where
       turn : (n f Z : ℕ) → n * f * Z ≡ f * (n * Z)
-      turn n f Z = simp (mul-assoc, mul-comm, mul-left-comm)
+      turn n f Z = simp (mul-assoc, mul-left-comm)
 
       sums : (rU hU UG gV EG WG eV fU z : ℕ) → z ≡ 0 → rU + hU ≡ UG → hU ≤ gV → gV ≤ hU + 6 * U → eV ≤ fU → Apart gV z EG WG eV → Apart rU 0 (UG + WG) EG (fU + 6 * U)
       sums rU hU UG gV EG WG eV fU z e0 e1 l1 l2 l3 a = record { under = omega (arith, e0, e1, l1, l2, l3, a .under, a .over); over = omega (arith, e0, e1, l1, l2, l3, a .under, a .over) }
@@ -276,7 +276,7 @@ rooted G a b y q g0 small l h i j = (
     one z = simp (mul-assoc, mul-comm, mul-left-comm)
 
     pair : (y b : ℕ) → y * y * (b * b) ≡ y * b * (y * b)
-    pair y b = simp (mul-assoc, mul-comm, mul-left-comm)
+    pair y b = simp (mul-assoc, mul-left-comm)
 
     two : a * G * (a * G) ≡ a * a * G * G
     two = simp (mul-assoc, mul-comm, mul-left-comm)

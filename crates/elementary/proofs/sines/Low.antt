@@ -1,26 +1,26 @@
 -- Arguments below 1: from the sums of the square's series to the doubles. Assumes nothing.
 use mathlib.Core.Path.{_≡_, refl, sym, ap, _∙_, subst}
-use mathlib.Core.Bool.{Bool, true, false, true≢false}
-use Prim.Native.Nat.{ℕ, zero, suc, _+_, _-_, _*_, _/_, _%_, _^_, _≤_, _<_, zero-le}
-use native.Mathlib.Nat.{le-trans, le-of-eq, le-of-lt, le-refl, add-assoc, add-comm, add-le-add, mul-add, add-mul, mul-comm, mul-assoc, mul-left-comm, mul-right-comm, mul-le-mul, mul-le-mul-left, mul-le-mul-right, le-of-mul-le-mul-right, le-of-mul-le-mul-left, mul-pos, zero-lt-suc, one-mul, mul-one, zero-mul, mul-zero, zero-add, pow-suc, lt-of-lt-of-le, mul-mul-mul-comm}
+use mathlib.Core.Bool.{true, false, true≢false}
+use Prim.Native.Nat.{ℕ, suc, _+_, _-_, _*_, _/_, _^_, _≤_, _<_}
+use native.Mathlib.Nat.{le-trans, le-of-eq, le-of-lt, le-refl, add-le-add, mul-add, add-mul, mul-comm, mul-assoc, mul-left-comm, mul-right-comm, mul-le-mul, mul-le-mul-left, mul-le-mul-right, le-of-mul-le-mul-right, le-of-mul-le-mul-left, mul-pos, zero-lt-suc, one-mul, zero-mul, mul-zero, zero-add, lt-of-lt-of-le, mul-mul-mul-comm}
 use native.Mathlib.Omega.{arith}
 use lib.Pow.{pow-pos, pow-add}
 use lib.Dec.{leb→le}
 use lib.IntN.{pos}
-use lib.Ieee.{Float, nan, inf, fin, up, down, binary64, ofBits}
+use lib.Ieee.{Float, nan, inf, fin, up, down}
 use lib.Ieee.Exact.{HasValue}
 use lib.Ieee.Positive.{num, den, den-pos}
-use Rattle.elementary.specs.Series.{Quarter, east, north, west, south, start, back, at, sum, part}
+use Rattle.elementary.specs.Series.{Quarter, east, north, west, south, start, back, at, part}
 use Rattle.elementary.specs.Series.{term}
 use Rattle.elementary.specs.Within.{Within}
 use Rattle.elementary.specs.Within as C
 use Rattle.elementary.specs.Arctangent.{NotBelow}
 use Rattle.elementary.specs.Inside.Fixed.{Apart, IsHigh}
-use Rattle.elementary.specs.Inside.Circle.{Law, State, plus, less}
+use Rattle.elementary.specs.Inside.Circle.{State, plus, less}
 use Rattle.elementary.specs.Inside.Small.{IsSplit, IsRoot, Alternating}
 use Rattle.elementary.proofs.circle.Sums.{sum-cong}
 use Rattle.elementary.proofs.circle.Terms.{term-law}
-use Rattle.elementary.proofs.sines.Alternate.{two-law, peel, east-further, west-further, east-most, west-most, east-least}
+use Rattle.elementary.proofs.sines.Alternate.{two-law, peel, east-further, west-further, east-most, west-most}
 use Rattle.elementary.proofs.circle.Signed.{apart-times}
 use Rattle.elementary.proofs.sines.Doubles.{within-own}
 use Rattle.elementary.proofs.sines.Range.{Whole}

@@ -2,7 +2,7 @@
 use mathlib.Core.Path.{_≡_, refl, sym, ap, _∙_, subst}
 use mathlib.Core.Bool.{Bool, true, false, not, _&&_, _||_, true≢false}
 use Prim.Native.Nat.{ℕ, zero, suc, _+_, _-_, _*_, _/_, _%_, _^_, _≤_, _<_, zero-le}
-use native.Mathlib.Nat.{le-trans, le-of-eq, le-of-lt, le-refl, lt-irrefl, lt-of-lt-of-le, lt-of-le-of-lt, lt-of-not-le, mul-comm, mul-assoc, mul-right-comm, mul-left-comm, mul-le-mul-left, mul-le-mul-right, le-of-mul-le-mul-right, mul-pos, one-mul, mul-one, zero-mul, eq-of-mul-eq-mul-right, mod-eq-of-lt, zero-lt-suc, div-le-self, div-mul-le-self, lt-div-mul-add, suc-mul, le-suc, le-antisymm, lt-of-mul-lt-mul-right, mul-lt-mul-of-pos-right, eq-or-lt-of-le}
+use native.Mathlib.Nat.{le-trans, le-of-eq, le-of-lt, lt-irrefl, lt-of-lt-of-le, lt-of-le-of-lt, lt-of-not-le, mul-comm, mul-assoc, mul-right-comm, mul-left-comm, mul-le-mul-right, le-of-mul-le-mul-right, mul-pos, one-mul, mul-one, zero-mul, eq-of-mul-eq-mul-right, mod-eq-of-lt, zero-lt-suc, div-mul-le-self, lt-div-mul-add, suc-mul, le-antisymm, lt-of-mul-lt-mul-right, mul-lt-mul-of-pos-right, eq-or-lt-of-le}
 use native.Mathlib.Decide.{decLe}
 use native.Mathlib.Omega.{arith}
 use lib.IntN.{ℤ, pos}
@@ -11,13 +11,12 @@ use mathlib.Core.Logic.{inl, inr}
 use lib.Pow.{pow-add, pow-pos, pow-mono, shl-lt}
 use lib.Ieee.{Float, nan, inf, fin, up, down, lt, le, eq, binary64, ofBits}
 use lib.Ieee.Fits.{up-pos, down-pos, and-l}
-use lib.Ieee.Exact.{HasValue}
-use lib.Ieee.Positive.{num, den, den-pos, positive, between, le→cross, value→cross}
+use lib.Ieee.Positive.{num, den, positive, between, le→cross}
 use lib.Ieee.Scale.{finite}
 use Rattle.elementary.specs.Inside.Small.{IsSplit}
 use Rattle.elementary.specs.Inside.Arctangent.{IsFine}
 use Rattle.elementary.specs.Within as C
-use borrow.Author.Tests.{ltb-true, ltb-false, eqb-true, eqb-false}
+use borrow.Author.Tests.{ltb-false, eqb-false}
 
 pub positive-of : (x : Float) → T (le (fin false 1 (pos 0)) x) → T (le x (fin false 25 (pos 3))) → T (positive x)
 positive-of x h k = between (fin false 1 (pos 0)) x (fin false 25 (pos 3)) tt tt h k

@@ -1,5 +1,5 @@
 -- The cosine and the sine by doubling, in units of 2 ^ -63. Definitions only.
-use Prim.Native.Nat.{ℕ, zero, suc, _+_, _-_, _*_, _/_, _%_, _^_, _≤_, _<_}
+use Prim.Native.Nat.{ℕ, zero, suc, _+_, _-_, _*_, _%_, _^_, _≤_, _<_}
 use mathlib.Core.Path.{_≡_}
 use Rattle.elementary.specs.Series.{Quarter, east, north, west, south, back, part, term}
 use Rattle.elementary.specs.Inside.Fixed.{Apart}

@@ -1,5 +1,5 @@
 -- Below 1. Definitions only.
-use Prim.Native.Nat.{ℕ, zero, suc, _+_, _-_, _*_, _/_, _%_, _^_, _≤_, _<_}
+use Prim.Native.Nat.{ℕ, _+_, _-_, _*_, _^_, _≤_, _<_}
 use mathlib.Core.Path.{_≡_}
 use Rattle.elementary.specs.Series.{east, west, part}
 use Rattle.elementary.specs.Inside.Fixed.{Apart}

@@ -1,13 +1,11 @@
 -- `arctangents::above` meets its contract (`proofs/Sides.antt`, `proofs/Nearly.antt`). Assumes nothing.
-use mathlib.Core.Path.{_≡_, refl, sym, ap, _∙_, subst}
+use mathlib.Core.Path.{sym}
 use mathlib.Core.Bool.{true, false, true≢false}
-use Prim.Native.Nat.{ℕ, zero, suc, _+_, _-_, _*_, _/_, _%_, _^_, _≤_, _<_, zero-le}
-use native.Mathlib.Nat.{le-trans, le-of-eq, le-of-lt, zero-mul, zero-lt-suc}
+use Prim.Native.Nat.{ℕ, _+_, _-_, _*_, _^_, _≤_, _<_, zero-le}
+use native.Mathlib.Nat.{le-trans, le-of-eq, le-of-lt, zero-mul}
 use native.Mathlib.Omega.{arith}
 use borrow.Author.Needs.{needs}
-use Rattle.elementary.specs.Inside.Fixed.{IsHigh}
 use Rattle.elementary.specs.Inside.Circle.{plus, less}
-use Rattle.elementary.specs.Inside.Arctangent.{Above, Below, Good}
 use Rattle.elementary.proofs.arctangents.Sides.{sure-above, unsure-above}
 use Rattle.elementary.proofs.arctangents.Nearly.{wide, top-fits, one-of, none-of, high-of, below-negative, below-small, below-west, below-east}
 use Rattle.elementary.proofs.arctangents.above.Statement.{statement}

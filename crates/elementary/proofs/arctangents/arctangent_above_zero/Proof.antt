@@ -1,5 +1,5 @@
 -- `arctangents::arctangent_above_zero` meets its contract. Assumes nothing.
-use mathlib.Core.Path.{_≡_, sym, ap, _∙_, subst}
+use mathlib.Core.Path.{_≡_, sym, subst}
 use mathlib.Core.Bool.{false}
 use Prim.Native.Nat.{ℕ, suc, _+_, _*_, _/_, _^_, _≤_, _<_}
 use native.Mathlib.Nat.{le-trans, le-of-eq, add-le-add, le-refl, mul-le-mul-right, add-mul}
@@ -11,7 +11,6 @@ use lib.Ieee.Exact.{HasValue}
 use lib.Ieee.Positive.{num, den, positive, positive-finite, value→cross}
 use borrow.Author.Needs.{needs}
 use Rattle.arith.proofs.Laws.{number-above-zero, bits-above-zero, bits-below-infinity}
-use Rattle.elementary.specs.Arctangent.{IsArctangent}
 use Rattle.elementary.proofs.sines.Range.{above-of, two-positive, less-none}
 use Rattle.elementary.proofs.arctangents.Sides.{found-is}
 use Rattle.elementary.proofs.arctangents.arctangent_above_zero.Statement.{statement}

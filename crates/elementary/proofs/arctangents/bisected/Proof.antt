@@ -1,10 +1,9 @@
 -- `arctangents::bisected` meets its contract. Assumes nothing.
-use mathlib.Core.Path.{_≡_, refl, sym, ap, _∙_, subst}
-use Prim.Native.Nat.{ℕ, suc, _+_, _-_, _*_, _/_, _^_, _≤_, _<_}
-use native.Mathlib.Nat.{le-trans, le-of-lt, le-refl, lt-irrefl}
+use Prim.Native.Nat.{ℕ, _+_, _-_, _^_, _≤_, _<_}
+use native.Mathlib.Nat.{le-refl, lt-irrefl}
 use native.Mathlib.Omega.{arith}
 use lib.Dec.{leb→le}
-use Rattle.elementary.specs.Inside.Arctangent.{Between, IsHalved, Found}
+use Rattle.elementary.specs.Inside.Arctangent.{Between}
 use Rattle.elementary.proofs.arctangents.Upto.{two-above}
 use Rattle.elementary.proofs.arctangents.bisected.Statement.{statement}
 use Rattle.elementary.proofs.arctangents.bisected.Tie as tie

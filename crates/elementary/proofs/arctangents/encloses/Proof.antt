@@ -1,13 +1,12 @@
 -- `arctangents::encloses` meets its contract. Assumes nothing.
 use mathlib.Core.Path.{_≡_, sym, subst}
-use mathlib.Core.Bool.{Bool, true, false, true≢false}
+use mathlib.Core.Bool.{true, false, true≢false}
 use Prim.Native.Nat.{ℕ, _+_, _*_, _^_, _≤_, _<_}
 use native.Mathlib.Nat.{le-trans}
 use native.Mathlib.Omega.{arith}
 use lib.Dec.{leb→le}
 use borrow.Author.Tests.{not-false}
 use Rattle.elementary.specs.Inside.Circle.{IsCircle}
-use Rattle.elementary.specs.Inside.Arctangent.{IsFurther}
 use Rattle.elementary.proofs.arctangents.Sides.{Stated, stated, above-is, below-is}
 use Rattle.elementary.proofs.arctangents.Rotated.{further-is}
 use Rattle.elementary.proofs.arctangents.encloses.Statement.{statement}

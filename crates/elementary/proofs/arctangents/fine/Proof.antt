@@ -1,15 +1,14 @@
 -- `arctangents::fine` meets its contract. Assumes nothing.
 use mathlib.Core.Path.{_≡_, sym, subst}
 use mathlib.Core.Bool.{false}
-use Prim.Native.Nat.{ℕ, _-_, _*_, _^_, _≤_}
+use Prim.Native.Nat.{_*_, _^_}
 use lib.Dec.{T}
-use lib.Ieee as Ieee
-use lib.Ieee.{Float, binary64, fits, ofBits, toBits}
+use lib.Ieee.{Float, binary64, fits}
 use lib.Ieee.Bits.{ofBits-toBits}
 use lib.Ieee.Exact.{HasValue}
 use lib.Ieee.Positive.{positive, num, den, den-pos, value→cross}
 use Rattle.arith.proofs.Laws.{number-above-zero, bits-above-zero, bits-below-infinity}
-use Rattle.elementary.proofs.sines.Range.{two-positive, under-inf, below-two, fine-none, fine-upto, fine-some, shift-of}
+use Rattle.elementary.proofs.sines.Range.{two-positive, below-two, fine-none, fine-upto, fine-some, shift-of}
 use Rattle.elementary.proofs.arctangents.fine.Statement.{statement}
 use Rattle.elementary.proofs.arctangents.fine.Tie as tie
 

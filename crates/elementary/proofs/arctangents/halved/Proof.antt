@@ -1,11 +1,8 @@
 -- `arctangents::halved` meets its contract. Assumes nothing.
-use mathlib.Core.Path.{_≡_, refl, sym, ap, _∙_, subst}
-use mathlib.Core.Bool.{true, false}
-use Prim.Native.Nat.{ℕ, suc, _+_, _-_, _*_, _/_, _^_, _≤_, _<_}
-use native.Mathlib.Nat.{le-trans, le-of-lt}
+use Prim.Native.Nat.{ℕ, _+_, _-_, _*_, _/_, _^_, _≤_, _<_}
+use native.Mathlib.Nat.{le-trans}
 use native.Mathlib.Omega.{arith}
 use lib.Dec.{leb→le}
-use Rattle.elementary.specs.Inside.Arctangent.{Between, Good, IsHalved}
 use Rattle.elementary.proofs.arctangents.Sides.{stated, above-is, below-is}
 use Rattle.elementary.proofs.arctangents.Upto.{good-of}
 use Rattle.elementary.proofs.arctangents.Distinct.{distinct}

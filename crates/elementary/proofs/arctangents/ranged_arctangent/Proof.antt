@@ -1,5 +1,5 @@
 -- `arctangents::ranged_arctangent` meets its contract. Assumes nothing.
-use mathlib.Core.Path.{_≡_, sym, ap, _∙_, subst}
+use mathlib.Core.Path.{sym, ap, _∙_, subst}
 use Prim.Native.Nat.{ℕ, _+_, _*_, _^_, _≤_, zero-le}
 use native.Mathlib.Nat.{le-trans, le-of-eq, zero-mul, lt-irrefl}
 use native.Mathlib.Omega.{arith}

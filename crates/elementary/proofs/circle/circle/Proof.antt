@@ -1,10 +1,9 @@
 -- `circle::circle` meets its contract. Assumes nothing.
-use mathlib.Core.Path.{_≡_, subst, sym}
-use Prim.Native.Nat.{ℕ, suc, _+_, _-_, _*_, _^_, _≤_, _<_, zero-le}
+use mathlib.Core.Path.{_≡_, subst}
+use Prim.Native.Nat.{ℕ, _+_, _-_, _*_, _^_, _≤_, _<_, zero-le}
 use native.Mathlib.Nat.{le-trans, le-of-eq, add-comm}
 use native.Mathlib.Omega.{arith}
 use native.Mathlib.Numerals.{add-one}
-use Rattle.elementary.specs.Inside.Circle.{IsCircle}
 use Rattle.elementary.proofs.circle.Follows.{Follows, follows-first, follows-next, follows-last, turn-fits, size-most}
 use Rattle.elementary.proofs.circle.circle.Statement.{statement}
 use Rattle.elementary.proofs.circle.circle.Tie as tie

@@ -1,8 +1,7 @@
 -- `circle::first` meets its contract. Assumes nothing.
 use Prim.Native.Nat.{ℕ, _+_, _-_, _*_, _^_, _≤_, _<_}
 use native.Mathlib.Omega.{arith}
-use native.Mathlib.Nat.{le-trans, zero-lt-suc, lt-of-le-of-lt}
-use Rattle.elementary.specs.Inside.Circle.{IsNext}
+use native.Mathlib.Nat.{le-trans, zero-lt-suc}
 use Rattle.elementary.proofs.circle.Beginning.{easts, norths, begun, first-size, below, three-fit, under-fit, short-fit}
 use Rattle.elementary.proofs.circle.first.Statement.{statement}
 use Rattle.elementary.proofs.circle.first.Tie as tie

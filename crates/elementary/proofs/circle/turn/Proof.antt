@@ -1,6 +1,5 @@
 -- `circle::turn` meets its contract. Assumes nothing.
-use mathlib.Core.Path.{_≡_, subst}
-use Prim.Native.Nat.{ℕ, _+_, _*_, _^_, _≤_}
+use Prim.Native.Nat.{_*_, _^_, _≤_}
 use native.Mathlib.Nat.{le-trans, le-of-eq, le-of-lt, add-comm}
 use native.Mathlib.Omega.{arith}
 use Rattle.elementary.proofs.circle.Squares.{size-small, product-small, turn-less, turn-more}

@@ -1,9 +1,9 @@
 -- `logarithms::binary_log` meets its contract. The loop's invariant is `Close`. Assumes nothing.
-use Prim.Native.Nat.{ℕ, _*_, _-_, _^_, _≤_, _<_}
+use Prim.Native.Nat.{_*_, _-_, _^_, _≤_, _<_}
 use native.Mathlib.Omega.{arith}
 use borrow.Author.Needs.{needs}
 use native.Mathlib.Numerals.{add-one}
-use Rattle.elementary.proofs.logarithms.Squaring.{Close, Turn, turn, close-first, close-next, close-last, square-in, few}
+use Rattle.elementary.proofs.logarithms.Squaring.{Close, turn, close-first, close-next, close-last, square-in, few}
 use Rattle.elementary.proofs.logarithms.binary_log.Statement.{statement}
 use Rattle.elementary.proofs.logarithms.binary_log.Tie as tie
 

@@ -1,5 +1,5 @@
 -- `logarithms::tested_above` meets its contract. Assumes nothing.
-use Prim.Native.Nat.{ℕ, _+_, _^_, _≤_, _<_}
+use Prim.Native.Nat.{ℕ, _+_, _^_, _≤_}
 use native.Mathlib.Omega.{arith}
 use borrow.Author.Needs.{needs}
 use Rattle.elementary.proofs.fixed.Order.{difference-more, lies-of}

@@ -1,6 +1,6 @@
 -- `sines::even_sum` meets its contract. Assumes nothing.
-use mathlib.Core.Path.{_≡_, refl}
-use Prim.Native.Nat.{ℕ, _*_, _^_, _≤_}
+use mathlib.Core.Path.{refl}
+use Prim.Native.Nat.{_*_, _^_}
 use native.Mathlib.Nat.{zero-lt-suc, le-refl}
 use lib.Dec.{leb→le}
 use Rattle.elementary.specs.Inside.Small.{Alternating}

@@ -1,11 +1,8 @@
 -- `sines::low_cosine` meets its contract. Assumes nothing.
-use Prim.Native.Nat.{ℕ, _+_, _-_, _*_, _^_, _/_, _≤_, _<_}
-use native.Mathlib.Nat.{le-trans, le-of-lt, mul-le-mul, le-of-mul-le-mul-right}
+use Prim.Native.Nat.{ℕ, _+_, _-_, _^_, _/_, _≤_, _<_}
 use native.Mathlib.Omega.{arith}
-use lib.Pow.{pow-pos}
 use lib.Ieee.Positive.{num, den, den-pos}
 use borrow.Author.Needs.{needs}
-use Rattle.elementary.specs.Inside.Fixed.{IsHigh}
 use Rattle.elementary.proofs.sines.Low.{cosine-low}
 use Rattle.elementary.proofs.sines.low_cosine.Statement.{statement}
 use Rattle.elementary.proofs.sines.low_cosine.Tie as tie

@@ -5,10 +5,10 @@ use Prim.Native.Nat.{ℕ, _*_, _^_, _≤_}
 use native.Mathlib.Omega.{arith}
 use lib.Dec.{T}
 use lib.IntN.{pos, negsuc}
-use lib.Ieee.{Float, fin, binary64, ofBits, lt, le}
+use lib.Ieee.{ofBits}
 use lib.Ieee.Positive.{num, den, den-pos}
 use Rattle.elementary.proofs.sines.Low.{one-is}
-use Rattle.elementary.proofs.sines.Range.{tiny-of, whole-of, from-of}
+use Rattle.elementary.proofs.sines.Range.{tiny-of, from-of}
 use Rattle.elementary.proofs.sines.ranged_cosine.Statement.{statement}
 use Rattle.elementary.proofs.sines.ranged_cosine.Tie as tie
 

@@ -5,7 +5,7 @@ use Prim.Native.Nat.{ℕ, _*_, _^_, _≤_}
 use native.Mathlib.Omega.{arith}
 use lib.Dec.{T}
 use lib.IntN.{pos, negsuc}
-use lib.Ieee.{Float, fin, binary64, ofBits, lt, le}
+use lib.Ieee.{ofBits}
 use lib.Ieee.Positive.{num, den, den-pos}
 use Rattle.elementary.proofs.sines.Low.{own-is, narrower}
 use Rattle.elementary.proofs.sines.Range.{tiny-of, whole-of, from-of}

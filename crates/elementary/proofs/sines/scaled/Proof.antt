@@ -1,15 +1,15 @@
 -- `sines::scaled` meets its contract. Assumes nothing.
-use mathlib.Core.Path.{_≡_, sym, ap, _∙_, subst}
+use mathlib.Core.Path.{sym, ap, _∙_, subst}
 use mathlib.Core.Bool.{false}
-use Prim.Native.Nat.{ℕ, _-_, _*_, _^_, _≤_}
+use Prim.Native.Nat.{ℕ, _-_, _*_, _^_}
 use native.Mathlib.Nat.{le-trans, le-of-eq}
 use lib.Dec.{T}
-use lib.Ieee.{Float, binary64, fits, ofBits, toBits}
+use lib.Ieee.{Float, binary64, fits}
 use lib.Ieee.Bits.{ofBits-toBits}
 use lib.Ieee.Exact.{HasValue}
 use lib.Ieee.Positive.{num, den, den-pos, positive, value→cross}
 use Rattle.arith.proofs.Laws.{number-above-zero, bits-above-zero, bits-below-infinity}
-use Rattle.elementary.proofs.sines.Range.{Scaled, positive-of, over-zero, under-inf, at-least, at-most, scaled-of, fits-of, shift-fits}
+use Rattle.elementary.proofs.sines.Range.{Scaled, positive-of, at-least, at-most, scaled-of, fits-of, shift-fits}
 use Rattle.elementary.proofs.sines.scaled.Statement.{statement}
 use Rattle.elementary.proofs.sines.scaled.Tie as tie
 

@@ -1,6 +1,6 @@
 -- `sines::sine` meets its contract. Assumes nothing.
-use mathlib.Core.Path.{_≡_, refl, sym, subst}
-use mathlib.Core.Bool.{Bool, true, false, not, _&&_}
+use mathlib.Core.Path.{refl, sym, subst}
+use mathlib.Core.Bool.{false}
 use lib.Dec.{T}
 use lib.IntN.{pos}
 use lib.Ieee.{fin, le, ofBits, div}

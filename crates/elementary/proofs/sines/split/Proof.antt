@@ -1,16 +1,15 @@
 -- `sines::split` meets its contract. Assumes nothing.
-use mathlib.Core.Path.{_≡_, sym, subst}
+use mathlib.Core.Path.{sym, subst}
 use mathlib.Core.Bool.{false}
-use Prim.Native.Nat.{ℕ, _-_, _*_, _^_, _%_, _≤_}
+use Prim.Native.Nat.{_-_, _*_, _^_, _%_, _≤_}
 use lib.Dec.{T}
-use lib.Ieee as Ieee
-use lib.Ieee.{Float, binary64, fits, ofBits, toBits}
+use lib.Ieee.{Float, binary64, fits}
 use lib.Ieee.Bits.{ofBits-toBits}
 use lib.Ieee.Exact.{HasValue}
 use lib.Ieee.Positive.{num, den, den-pos, positive, value→cross}
 use Rattle.arith.proofs.Laws.{number-above-zero, bits-above-zero, bits-below-infinity}
 use Rattle.elementary.specs.Inside.Small.{IsSplit}
-use Rattle.elementary.proofs.sines.Range.{low-positive, over-zero, under-inf, below-one, not-tiny, split-of}
+use Rattle.elementary.proofs.sines.Range.{low-positive, over-zero, below-one, not-tiny, split-of}
 use Rattle.elementary.proofs.sines.split.Statement.{statement}
 use Rattle.elementary.proofs.sines.split.Tie as tie
 

@@ -4,7 +4,7 @@ use Prim.Native.Nat.{ℕ, zero, suc, _+_, _^_, _≤_, _<_}
 use native.Mathlib.Omega.{arith}
 use borrow.Author.Needs.{needs}
 use lib.Ieee.{Float, neg}
-use Rattle.elementary.specs.Inside.Fixed.{IsDifference, Lies}
+use Rattle.elementary.specs.Inside.Fixed.{Lies}
 use Rattle.elementary.specs.Inside.Circle.{plus, less}
 use Rattle.elementary.proofs.fixed.Exactly.{negated}
 use Rattle.elementary.proofs.fixed.Order.{difference-more, difference-less, opposite, lies-of}
