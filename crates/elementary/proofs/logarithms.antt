@@ -4,5 +4,4 @@ pub mod Squaring
 pub mod Tens
 pub mod Bridge
 pub mod Cases
-pub mod Above
 pub mod PowersOfTen

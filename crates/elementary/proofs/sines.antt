@@ -1,5 +1,4 @@
 -- Lemmas for the sine and the cosine of a double.
 pub mod Doubles
 pub mod Range
-pub mod Alternate
 pub mod Low

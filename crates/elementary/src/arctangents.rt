@@ -1,4 +1,6 @@
-// The arctangent of a double.
+// The arctangent of a double: a guess in doubles, to the last bits, of which nothing is proved, and a
+// test in whole numbers that the arctangent lies within 2^-40 of it. sin t - x * cos t tells on which
+// side of the arctangent of x a t from 0 to 2 lies.
 ghost use mathlib.Core.Path.{_≡_};
 ghost use mathlib.Core.Bool.{false, true};
 ghost use Prim.Native.Nat.{_+_, _*_, _^_, _≤_, _<_};
@@ -10,7 +12,7 @@ ghost use lib.Ieee.Positive.{num, den};
 ghost use Rattle.elementary.specs.Arctangent.{IsArctangent, Arctangent};
 ghost use Rattle.elementary.specs.Inside.Arctangent.{IsFine, Above, Below, IsFurther, Good, NearlyAbove, NearlyBelow, Between, IsHalved, Found};
 
-// whether p * 2^i is at most q * 2^j, where that is sure
+// Whether p * 2^i is at most q * 2^j, where that is sure.
 fn reaches(p: u64, q: u64, i: u64, j: u64) -> bool
     ensures { λ r. ⌜ (r ≡ true → p * 2 ^ i ≤ q * 2 ^ j) ⌝ }
     ensures { λ r. ⌜ (r ≡ false → 0 < p → q * 2 ^ j ≤ p * 2 ^ i + 2 ^ j) ⌝ }
@@ -29,7 +31,8 @@ fn reaches(p: u64, q: u64, i: u64, j: u64) -> bool
     false
 }
 
-// whether the sine is surely no less than m * 2^(e - 2148) times the cosine, with 2^-50 to spare for each
+// Whether the sine is surely no less than m * 2^(e - 2148) times the cosine, with 2^-50 to spare for
+// each.
 fn above(c: u64, cn: u64, s: u64, sn: u64, m: u64, e: u64) -> bool
     requires { ⌜ (2 ^ 52 ≤ m) × (m < 2 ^ 53) ⌝ }
     ensures { λ r. ⌜ (r ≡ true → Above cn c sn s m e) ⌝ }
@@ -53,7 +56,7 @@ fn above(c: u64, cn: u64, s: u64, sn: u64, m: u64, e: u64) -> bool
     reaches(super::fixed::high(c + 8192, m << 10) + 4, s - 8192, e, 2095)
 }
 
-// the same for no more
+// Whether it is surely no more.
 fn below(c: u64, cn: u64, s: u64, sn: u64, m: u64, e: u64) -> bool
     requires { ⌜ (2 ^ 52 ≤ m) × (m < 2 ^ 53) ⌝ }
     ensures { λ r. ⌜ (r ≡ true → Below cn c sn s m e) ⌝ }
@@ -100,7 +103,7 @@ fn further(c: u64, s: u64) -> super::circle::Pair
     }
 }
 
-// whether the arctangent of m * 2^(e - 2148) is surely between low / 2^58 and 2^-40 more
+// Whether the arctangent of m * 2^(e - 2148) lies surely from low / 2^58 to 2^-40 more.
 fn encloses(low: u64, m: u64, e: u64) -> bool
     requires { ⌜ (low + 2 ^ 18 ≤ 2 ^ 59) × (2 ^ 52 ≤ m) × (m < 2 ^ 53) ⌝ }
     ensures { λ r. ⌜ (r ≡ true → Between low (low + 2 ^ 18) m e) ⌝ }
@@ -130,12 +133,12 @@ fn encloses(low: u64, m: u64, e: u64) -> bool
     below(c, cn, s, sn, m, e)
 }
 
-// the whole part of g * 2^58, below 2
+// The whole part of g * 2^58, for a g below 2.
 fn fine(g: f64) -> u64
     requires { ⌜ T (Ieee.lt (fin false 0 (pos 0)) g) ⌝ ∗ ⌜ T (Ieee.lt g (fin false 1 (pos 1))) ⌝ }
     ensures { λ r. ⌜ IsFine (num g) (den g) r ⌝ }
 {
-    let s = arith::scale(f64::to_bits(g));
+    let s = super::fixed::unpack(g);
     let m = s.m;
     let e = s.e;
     if e < 2033 {
@@ -144,7 +147,7 @@ fn fine(g: f64) -> u64
     (m << 6) >> (2096 - e)
 }
 
-// y less 2^17, or 0
+// y less 2^17, or 0.
 fn beneath(y: u64) -> u64
     ensures { λ r. ⌜ (r ≤ y) × (y ≤ r + 2 ^ 17) ⌝ }
 {
@@ -169,8 +172,9 @@ fn beside(t: f64, high: f64, low: f64) -> f64 {
     high + (t + (arctangent_series(t) + low))
 }
 
-// An arctangent of an x above zero: that of a number c of few digits, and that of (x - c) / (1 + x * c),
-// which is at most about 1/8. Below 3/16 the series alone is more exact. Nothing is proved of it; what it gives is tested.
+// An arctangent of an x above zero: that of a number c of few digits, and that of
+// (x - c) / (1 + x * c), which is at most about 1/8. Below 3/16 the series alone is more exact.
+// Nothing is proved of it; what it gives is tested.
 fn guess(x: f64) -> f64 {
     if x < 0.1875 {
         return x + arctangent_series(x);
@@ -220,13 +224,14 @@ fn guess(x: f64) -> f64 {
     beside(-1.0 / x, 1.5707963267948966, 6.123233995736766e-17)
 }
 
-// bounds of an arctangent, in units of 2^-58
+// Bounds of an arctangent, in units of 2^-58.
 struct Bracket {
     low: u64,
     up: u64,
 }
 
-// Closer bounds, by the middle, or by a number 2^-42 above it where the middle is too near to tell: there it is not.
+// Closer bounds, by the middle, or where the middle is too near to tell by a number 2^-42 above it:
+// there it is surely above.
 fn halved(low: u64, up: u64, m: u64, e: u64) -> Bracket
     requires { ⌜ (low + 0x3ffc0 < up) × (up ≤ 2 ^ 59) × (2 ^ 52 ≤ m) × (m < 2 ^ 53) × Between low up m e ⌝ }
     ensures { λ r. ⌜ IsHalved low up m e (r .low) (r .up) ⌝ }
@@ -258,7 +263,8 @@ fn halved(low: u64, up: u64, m: u64, e: u64) -> Bracket
     Bracket { low: low, up: low }
 }
 
-// A number within 2^-40 of the arctangent of m * 2^(e - 2148), by bisection, in units of 2^-58. It is slow, and no argument is known that comes here.
+// A number within 2^-40 of the arctangent of m * 2^(e - 2148), by bisection, in units of 2^-58. It is
+// slow, and no argument is known that comes here.
 fn bisected(m: u64, e: u64) -> u64
     requires { ⌜ (2 ^ 52 ≤ m) × (m < 2 ^ 53) ⌝ }
     ensures { λ r. ⌜ Found m e r ⌝ }
@@ -278,7 +284,7 @@ fn arctangent_above_zero(x: f64) -> f64
     requires { ⌜ T (Ieee.lt (fin false 0 (pos 0)) x) ⌝ ∗ ⌜ T (Ieee.lt x (inf false)) ⌝ }
     ensures { λ r. ⌜ IsArctangent x r ⌝ }
 {
-    let s = arith::scale(f64::to_bits(x));
+    let s = super::fixed::unpack(x);
     let m = s.m;
     let e = s.e;
     let g = guess(x);

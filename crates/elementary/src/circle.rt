@@ -1,8 +1,9 @@
-// The cosine and the sine together, in whole numbers.
+// The cosine and the sine together, in units of 2^-63: twelve terms of their series at a fraction of
+// the angle, which is then doubled. c² - s² and 2cs need no π and no reduction.
 ghost use Prim.Native.Nat.{_+_, _*_, _^_, _≤_, _<_};
-ghost use Rattle.elementary.specs.Inside.Circle.{IsNext, IsTurn, IsFirst, IsCircle};
+ghost use Rattle.elementary.specs.Inside.Circle.{IsNext, IsDoubled, IsFirst, IsCircle};
 
-// the n-th term of the series from the one before it, t
+// The n-th term of the series from t, the one before it.
 fn next(t: u64, y: u64, n: u64) -> u64
     requires { ⌜ (t ≤ 2 ^ 63) × (y ≤ 200 * 2 ^ 52) × (0 < n) ⌝ }
     ensures { λ r. ⌜ IsNext t y n r ⌝ }
@@ -10,7 +11,7 @@ fn next(t: u64, y: u64, n: u64) -> u64
     super::fixed::high(t, y) / n
 }
 
-// a cosine and a sine in units of 2^-63, each with its sign: 1 where it is negative
+// A cosine and a sine by their sizes, each with its sign: 1 where it is negative.
 pub struct Pair {
     pub c: u64,
     pub cn: u64,
@@ -18,10 +19,10 @@ pub struct Pair {
     pub sn: u64,
 }
 
-// at twice the angle
-fn turn(c: u64, cn: u64, s: u64, sn: u64) -> Pair
+// The cosine and the sine at twice the angle.
+fn doubled(c: u64, cn: u64, s: u64, sn: u64) -> Pair
     requires { ⌜ (c * c + s * s ≤ 9 * 2 ^ 123) × (cn ≤ 1) × (sn ≤ 1) ⌝ }
-    ensures { λ r. ⌜ IsTurn cn c sn s (r .cn) (r .c) (r .sn) (r .s) ⌝ }
+    ensures { λ r. ⌜ IsDoubled cn c sn s (r .cn) (r .c) (r .sn) (r .s) ⌝ }
 {
     let cc = super::fixed::high(c, c);
     let ss = super::fixed::high(s, s);
@@ -43,12 +44,13 @@ fn turn(c: u64, cn: u64, s: u64, sn: u64) -> Pair
     }
 }
 
+// A cosine and a sine that are not negative.
 struct Initial {
     c: u64,
     s: u64,
 }
 
-// the cosine and the sine of y / 2^63, for a y of at most 200 / 2048 of that, by twelve terms
+// The cosine and the sine of y / 2^63, which is at most 200 / 2048.
 fn first(y: u64) -> Initial
     requires { ⌜ y ≤ 200 * 2 ^ 52 ⌝ }
     ensures { λ r. ⌜ IsFirst y (r .c) (r .s) ⌝ }
@@ -70,10 +72,10 @@ fn first(y: u64) -> Initial
     }
 }
 
-// the cosine and the sine of y / 2^(63 - turns): those of y / 2^63, doubled
-pub fn circle(y: u64, turns: u64) -> Pair
-    requires { ⌜ (y ≤ 200 * 2 ^ 52) × (turns ≤ 11) ⌝ }
-    ensures { λ r. ⌜ IsCircle y turns (r .cn) (r .c) (r .sn) (r .s) ⌝ }
+// The cosine and the sine of y / 2^(63 - doublings).
+pub fn circle(y: u64, doublings: u64) -> Pair
+    requires { ⌜ (y ≤ 200 * 2 ^ 52) × (doublings ≤ 11) ⌝ }
+    ensures { λ r. ⌜ IsCircle y doublings (r .cn) (r .c) (r .sn) (r .s) ⌝ }
     ensures { λ r. ⌜ (r .c ≤ 9 * 2 ^ 60) × (r .s ≤ 9 * 2 ^ 60) ⌝ }
 {
     let begin = first(y);
@@ -82,8 +84,8 @@ pub fn circle(y: u64, turns: u64) -> Pair
     let mut s = begin.s;
     let mut sn: u64 = 0;
     let mut j: u64 = 0;
-    while j < turns {
-        let p = turn(c, cn, s, sn);
+    while j < doublings {
+        let p = doubled(c, cn, s, sn);
         c = p.c;
         cn = p.cn;
         s = p.s;

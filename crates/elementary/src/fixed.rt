@@ -6,7 +6,16 @@ ghost use Prim.Native.Nat.{_*_, _^_, _≤_, _<_};
 ghost use lib.Dec.{T};
 ghost use lib.Ieee.{le};
 ghost use lib.Ieee.Exact.{HasValue};
-ghost use Rattle.elementary.specs.Inside.Fixed.{IsHigh};
+ghost use lib.Ieee.Positive.{positive};
+ghost use Rattle.elementary.specs.Inside.Fixed.{IsUnpacked, IsHigh};
+
+// A finite x above zero as m * 2^(e - 2148), with an m of 53 binary digits.
+pub fn unpack(x: f64) -> arith::Scaled
+    requires { ⌜ T (positive x) ⌝ }
+    ensures { λ r. ⌜ IsUnpacked x (r .m) (r .e) ⌝ }
+{
+    arith::scale(f64::to_bits(x))
+}
 
 // a * b / 2^63, from the halves of a and b without the product of the two lower ones.
 pub fn high(a: u64, b: u64) -> u64

@@ -4,6 +4,7 @@ mod circle;
 mod fixed;
 mod logarithms;
 mod sines;
+mod small;
 
 pub use arctangents::arctangent;
 pub use logarithms::log10;

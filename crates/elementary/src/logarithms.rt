@@ -1,4 +1,5 @@
-// The decimal logarithm of a double.
+// The decimal logarithm of a double: a guess in doubles, to the last bits, of which nothing is proved,
+// and bounds 3 * 2^-22 or 4 * 2^-22 apart in whole numbers, between which it must lie.
 ghost use mathlib.Core.Bool.{false};
 ghost use mathlib.Core.Path.{_≡_};
 ghost use Prim.Native.Nat.{_+_, _-_, _*_, _^_, _≤_, _<_};
@@ -31,7 +32,8 @@ fn binary_log(m: u64) -> u64
     k
 }
 
-// u times the decimal logarithm of 2, cut to a whole number: 21306 / 70777 is below log 2 by less than 2^-34.
+// u times the decimal logarithm of 2, cut to a whole number. 21306 / 70777 is below that logarithm by
+// less than 2^-34.
 fn ten_log(u: u64) -> u64
     requires { ⌜ u < 0x1_1000_0000 ⌝ }
     ensures { λ r. ⌜ TenLog u r ⌝ }
@@ -39,7 +41,7 @@ fn ten_log(u: u64) -> u64
     u * 21306 / 70777
 }
 
-// n / 2^22 as a double
+// n / 2^22 as a double.
 fn parts(n: u32) -> f64
     ensures { λ r. ⌜ HasValue r false n (2 ^ 22) ⌝ }
 {
@@ -48,8 +50,9 @@ fn parts(n: u32) -> f64
 
 // A decimal logarithm of m * 2^(e - 2148). Nothing is proved of it; what it gives is tested.
 // The fraction f, from the root of 1/2 to that of 2, has the logarithm d - d^2/2 + s * (d^2/2 + r),
-// with d = f - 1, s = d / (2 + d) and r the series of log((1 + s) / (1 - s)) from its second term on,
-// less s. The first 26 digits of it are multiplied by the first 26 of 1 / log 10 exactly.
+// with d = f - 1, s = d / (2 + d) and r the series of log((1 + s) / (1 - s)) over s from its second
+// term on. The logarithm of 2 and the factor 1 / log 10 stand in two parts each: a multiple of the
+// first, of 41 digits, is exact, and so is the product of the second, of 26, with as many of d - d^2/2.
 fn guess(m: u64, e: u64) -> f64
     requires { ⌜ (m < 2 ^ 53) × (e < 2 ^ 53) ⌝ }
 {
@@ -112,7 +115,7 @@ fn log_above_zero(x: f64) -> f64
     requires { ⌜ T (Ieee.lt (fin false 0 (pos 0)) x) ⌝ ∗ ⌜ T (Ieee.lt x (inf false)) ⌝ }
     ensures { λ r. ⌜ Near x r ⌝ }
 {
-    let s = arith::scale(f64::to_bits(x));
+    let s = super::fixed::unpack(x);
     let m = s.m;
     let e = s.e;
     let t = e * 0x40_0000 + binary_log(m);

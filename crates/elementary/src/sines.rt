@@ -1,142 +1,39 @@
-// The sine and the cosine of a double.
+// The sine and the cosine of a double. From 1 on both are computed twice: in doubles, to the last
+// bits, of which nothing is proved, and in whole numbers, which prove it within 2^-42 of themselves.
 ghost use mathlib.Core.Path.{_≡_};
 ghost use mathlib.Core.Bool.{false};
 ghost use Prim.Native.Nat.{_+_, _*_, _^_, _≤_, _<_};
 ghost use lib.Dec.{T};
 ghost use lib.IntN.{pos};
 ghost use lib.Ieee as Ieee;
-ghost use lib.Ieee.{fin, binary64};
-ghost use lib.Ieee.Exact.{HasValue};
+ghost use lib.Ieee.{fin};
 ghost use lib.Ieee.Positive.{num, den};
 ghost use Rattle.elementary.specs.Sine.{IsCosine, IsSine, isTiny, Cosine, Sine};
 ghost use Rattle.elementary.specs.Inside.Fixed.{IsDifference, Lies};
 ghost use Rattle.elementary.specs.Inside.Circle.{plus, less};
-ghost use Rattle.elementary.specs.Inside.Small.{IsSplit, IsSquare, IsDown, Alternating};
 
-// x * 2^52, a whole number from 1 on
+// x * 2^52, which is a whole number from 1 on.
 fn scaled(x: f64) -> u64
     requires { ⌜ T (Ieee.le (fin false 1 (pos 0)) x) ⌝ ∗ ⌜ T (Ieee.le x (fin false 25 (pos 3))) ⌝ }
     ensures { λ r. ⌜ (r ≤ 200 * 2 ^ 52) × (r * den x ≡ num x * 2 ^ 52) ⌝ }
 {
-    let s = arith::scale(f64::to_bits(x));
+    let s = super::fixed::unpack(x);
     let m = s.m;
     let e = s.e;
     m << (e - 2096)
 }
 
-// x, from 2^-27 to 1, as m / 2^(63 + k)
-struct Fraction {
-    m: u64,
-    k: u64,
-}
-
-fn split(x: f64) -> Fraction
-    requires { ⌜ T (Ieee.le (Ieee.ofBits binary64 0x3e40_0000_0000_0000) x) ⌝ ∗ ⌜ T (Ieee.lt x (fin false 1 (pos 0))) ⌝ }
-    ensures { λ r. ⌜ IsSplit (num x) (den x) (r .m) (r .k) ⌝ }
-{
-    let s = arith::scale(f64::to_bits(x));
-    let m = s.m;
-    let e = s.e;
-    Fraction {
-        m: m << 10,
-        k: 2095 - e,
-    }
-}
-
-// the square of m / 2^(63 + k), in units of 2^-63
-fn own_square(m: u64, k: u64) -> u64
-    requires { ⌜ (m < 2 ^ 63) × (k ≤ 26) ⌝ }
-    ensures { λ r. ⌜ IsSquare m k r ⌝ }
-{
-    let y = m >> k;
-    super::fixed::high(y, y)
-}
-
-// 1 - g * q / n, in units of 2^-63
-fn down(g: u64, q: u64, n: u64) -> u64
-    requires { ⌜ (g ≤ 2 ^ 63) × (q ≤ 2 ^ 63) × (2 ≤ n) ⌝ }
-    ensures { λ r. ⌜ IsDown g q n r ⌝ }
-{
-    0x8000_0000_0000_0000 - super::fixed::high(g, q) / n
-}
-
-// the cosine of the root of q, in units of 2^-63
-fn even_sum(q: u64) -> u64
-    requires { ⌜ q ≤ 2 ^ 63 ⌝ }
-    ensures { λ r. ⌜ Alternating q 0 20 20 r ⌝ }
-{
-    let g18 = down(0x8000_0000_0000_0000, q, 380);
-    let g16 = down(g18, q, 306);
-    let g14 = down(g16, q, 240);
-    let g12 = down(g14, q, 182);
-    let g10 = down(g12, q, 132);
-    let g8 = down(g10, q, 90);
-    let g6 = down(g8, q, 56);
-    let g4 = down(g6, q, 30);
-    let g2 = down(g4, q, 12);
-    down(g2, q, 2)
-}
-
-// the sine of the root of q over that root, in units of 2^-63
-fn odd_sum(q: u64) -> u64
-    requires { ⌜ q ≤ 2 ^ 63 ⌝ }
-    ensures { λ r. ⌜ Alternating q 1 20 20 r ⌝ }
-{
-    let g19 = down(0x8000_0000_0000_0000, q, 420);
-    let g17 = down(g19, q, 342);
-    let g15 = down(g17, q, 272);
-    let g13 = down(g15, q, 210);
-    let g11 = down(g13, q, 156);
-    let g9 = down(g11, q, 110);
-    let g7 = down(g9, q, 72);
-    let g5 = down(g7, q, 42);
-    let g3 = down(g5, q, 20);
-    down(g3, q, 6)
-}
-
-// m / 2^(53 + k)
-fn placed(m: u64, k: u64) -> f64
-    requires { ⌜ (m < 2 ^ 53) × (k ≤ 26) ⌝ }
-    ensures { λ r. ⌜ HasValue r false m (2 ^ 52 * 2 ^ (k + 1)) ⌝ }
-{
-    let one: u64 = 1;
-    super::fixed::parts(m) / ((one << (k + 1)) as f64)
-}
-
-// The sine of x, from 2^-27 to 1.
-fn low_sine(x: f64) -> f64
-    requires { ⌜ T (Ieee.le (Ieee.ofBits binary64 0x3e40_0000_0000_0000) x) ⌝ ∗ ⌜ T (Ieee.lt x (fin false 1 (pos 0))) ⌝ }
-    ensures { λ r. ⌜ IsSine x r ⌝ }
-{
-    let p = split(x);
-    let m = p.m;
-    let k = p.k;
-    let g = odd_sum(own_square(m, k));
-    placed((super::fixed::high(m, g) + 512) >> 10, k)
-}
-
-// The cosine of x, from 2^-27 to 1.
-fn low_cosine(x: f64) -> f64
-    requires { ⌜ T (Ieee.le (Ieee.ofBits binary64 0x3e40_0000_0000_0000) x) ⌝ ∗ ⌜ T (Ieee.lt x (fin false 1 (pos 0))) ⌝ }
-    ensures { λ r. ⌜ IsCosine x r ⌝ }
-{
-    let p = split(x);
-    let m = p.m;
-    let k = p.k;
-    let g = even_sum(own_square(m, k));
-    super::fixed::parts((g + 1024) >> 11)
-}
-
-// What is left of x after the nearest multiple of π/2, in two doubles, and how many quarters of a
-// turn that multiple is, of four. Nothing is proved of it.
+// What is left of an angle after the nearest multiple of π/2, as a sum of two doubles, and how many
+// quarters of a turn that multiple is, up to whole turns.
 struct Remainder {
     quarters: u64,
     high: f64,
     low: f64,
 }
 
-// π/2 stands in three parts, of 33, 33 and 53 binary digits, so that a multiple of the first two is
-// exact. To add 1.5 * 2^52 rounds to a whole number, whose last digits are then those of the pattern.
+// x, and `ahead` quarters more. π/2 stands in three parts, of 33, 33 and 53 binary digits, so that
+// multiples of the first two are exact. To add 1.5 * 2^52 rounds to a whole number, and the last
+// digits of its pattern are those of the number. Nothing is proved of it.
 fn reduced(x: f64, ahead: f64) -> Remainder {
     let shifted = x * 0.6366197723675814 + 6755399441055744.0;
     let k = shifted - 6755399441055744.0;
@@ -249,7 +146,7 @@ fn ranged_cosine(x: f64) -> f64
         return 1.0;
     }
     if x < 1.0 {
-        return low_cosine(x);
+        return super::small::low_cosine(x);
     }
     far_cosine(x)
 }
@@ -264,7 +161,7 @@ fn ranged_sine(x: f64) -> f64
         return x;
     }
     if x < 1.0 {
-        return low_sine(x);
+        return super::small::low_sine(x);
     }
     far_sine(x)
 }

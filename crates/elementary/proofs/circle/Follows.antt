@@ -11,7 +11,7 @@ use lib.Ieee.Fits.{and-l, and-r}
 use Rattle.elementary.specs.Series.{Quarter, east, north, west, south, at, part}
 use Rattle.elementary.specs.Series.{falling, term}
 use Rattle.elementary.specs.Inside.Fixed.{Apart}
-use Rattle.elementary.specs.Inside.Circle.{Law, State, IsFirst, IsTurn, IsCircle, error, plus, less}
+use Rattle.elementary.specs.Inside.Circle.{Law, State, IsFirst, IsDoubled, IsCircle, error, plus, less}
 use Rattle.elementary.proofs.circle.Signed.{apart-times, apart-cancel, apart-wider}
 use Rattle.elementary.proofs.circle.Sums.{sum-cong, sum-times}
 use Rattle.elementary.proofs.circle.Terms.{level, level-law, level-zero, term-law, doubled-law, proportion}
@@ -54,8 +54,8 @@ error-most : (j : ℕ) → j ≤ 10 → error j ≤ 2 ^ 22
 unfolding test
 error-most j h = leb→le (error j) (2 ^ 22) (and-r (leb (squares j) (35 * 2 ^ 121)) (leb (error j) (2 ^ 22)) (tested 10 j all-ten h))
 
-pub turn-fits : (x j : ℕ) → j ≤ 10 → x ≤ squares j → x ≤ 9 * 2 ^ 123
-turn-fits x j h k = le-trans k (le-trans (squares-most j h) (leb→le (35 * 2 ^ 121) (9 * 2 ^ 123) tt))
+pub doubled-fits : (x j : ℕ) → j ≤ 10 → x ≤ squares j → x ≤ 9 * 2 ^ 123
+doubled-fits x j h k = le-trans k (le-trans (squares-most j h) (leb→le (35 * 2 ^ 121) (9 * 2 ^ 123) tt))
 
 squares-last : squares 11 ≤ 40 * 2 ^ 121
 unfolding squares
@@ -183,7 +183,7 @@ small-at j a b h k =
 rest-sign : (k n : ℕ) → n ≡ k % 2 → n ≤ 1
 rest-sign k n e = omega arith
 
-pub follows-next : (y j cn c sn s cn' c' sn' s' : ℕ) → y ≤ 200 * 2 ^ 52 → j ≤ 10 → Follows y j cn c sn s → IsTurn cn c sn s cn' c' sn' s' → Follows y (suc j) cn' c' sn' s'
+pub follows-next : (y j cn c sn s cn' c' sn' s' : ℕ) → y ≤ 200 * 2 ^ 52 → j ≤ 10 → Follows y j cn c sn s → IsDoubled cn c sn s cn' c' sn' s' → Follows y (suc j) cn' c' sn' s'
 unfolding level error
 follows-next y j cn c sn s cn' c' sn' s' Y J f t = record {
   size = next-squares c' s' (c * c + s * s) (sizes cn c sn s cn' c' sn' s' t) j (f .size);

@@ -7,7 +7,7 @@ use native.Mathlib.Omega.{arith}
 use lib.Pow.{pow-pos}
 use lib.Dec.{leb→le}
 use Rattle.elementary.specs.Inside.Fixed.{Apart, IsHigh}
-use Rattle.elementary.specs.Inside.Circle.{IsTurn}
+use Rattle.elementary.specs.Inside.Circle.{IsDoubled}
 
 -- 2 * c * s ≤ c ^ 2 + s ^ 2
 pub twice-le : (c s : ℕ) → 2 * (c * s) ≤ c * c + s * s
@@ -46,14 +46,14 @@ module _ (c s p q h : ℕ) (i : IsHigh c c p) (j : IsHigh s s q) (k : IsHigh c s
       go : (x : ℕ) → x < (h + 4) * 2 ^ 63 → 2 * x ≤ (2 * h + 8) * 2 ^ 63
       go x l = omega arith
 
-  pub turn-less : p < q → IsTurn a c b s 1 (q - p) ((a + b) % 2) (2 * h)
-  turn-less l = record { cosine = go (c * c) (s * s) (i .low) (i .high) (j .low) (j .high); sign = omega arith; sine-low = doubled-low; sine-high = doubled-high; sine-sign = refl }
+  pub doubled-less : p < q → IsDoubled a c b s 1 (q - p) ((a + b) % 2) (2 * h)
+  doubled-less l = record { cosine = go (c * c) (s * s) (i .low) (i .high) (j .low) (j .high); sign = omega arith; sine-low = doubled-low; sine-high = doubled-high; sine-sign = refl }
     where
       go : (x y : ℕ) → p * 2 ^ 63 ≤ x → x < (p + 4) * 2 ^ 63 → q * 2 ^ 63 ≤ y → y < (q + 4) * 2 ^ 63 → Apart (0 * 2 ^ 63) ((q - p) * 2 ^ 63) x y (4 * 2 ^ 63)
       go x y m n r t = record { under = omega arith; over = omega arith }
 
-  pub turn-more : q ≤ p → IsTurn a c b s 0 (p - q) ((a + b) % 2) (2 * h)
-  turn-more l = record { cosine = go (c * c) (s * s) (i .low) (i .high) (j .low) (j .high); sign = omega arith; sine-low = doubled-low; sine-high = doubled-high; sine-sign = refl }
+  pub doubled-more : q ≤ p → IsDoubled a c b s 0 (p - q) ((a + b) % 2) (2 * h)
+  doubled-more l = record { cosine = go (c * c) (s * s) (i .low) (i .high) (j .low) (j .high); sign = omega arith; sine-low = doubled-low; sine-high = doubled-high; sine-sign = refl }
     where
       go : (x y : ℕ) → p * 2 ^ 63 ≤ x → x < (p + 4) * 2 ^ 63 → q * 2 ^ 63 ≤ y → y < (q + 4) * 2 ^ 63 → Apart ((p - q) * 2 ^ 63) (0 * 2 ^ 63) x y (4 * 2 ^ 63)
       go x y m n r t = record { under = omega arith; over = omega arith }

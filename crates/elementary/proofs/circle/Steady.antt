@@ -5,7 +5,7 @@ use native.Mathlib.Nat.{le-trans, le-of-eq, le-of-lt, le-refl, lt-of-not-le, add
 use native.Mathlib.Decide.{decLe}
 use native.Mathlib.Omega.{arith}
 use Rattle.elementary.specs.Inside.Fixed.{Apart}
-use Rattle.elementary.specs.Inside.Circle.{IsTurn, plus, less}
+use Rattle.elementary.specs.Inside.Circle.{IsDoubled, plus, less}
 use Rattle.elementary.proofs.circle.Onward.{Rounded}
 
 -- ---- the signs
@@ -66,7 +66,7 @@ sine-of (suc (suc k)) c sn s s' p q l h = absurd (omega arith)
 sine-of zero c (suc (suc k)) s s' p q l h = absurd (omega arith)
 sine-of (suc zero) c (suc (suc k)) s s' p q l h = absurd (omega arith)
 
-pub rounded-of : (cn c sn s cn' c' sn' s' : ℕ) → cn ≤ 1 → sn ≤ 1 → IsTurn cn c sn s cn' c' sn' s'
+pub rounded-of : (cn c sn s cn' c' sn' s' : ℕ) → cn ≤ 1 → sn ≤ 1 → IsDoubled cn c sn s cn' c' sn' s'
     → Rounded (2 ^ 63) (8 * 2 ^ 63) (plus cn c) (less cn c) (plus sn s) (less sn s) (plus cn' c') (less cn' c') (plus sn' s') (less sn' s')
 rounded-of cn c sn s cn' c' sn' s' p q t = record {
   cosine = cosine-of cn c sn s cn' c' (t .cosine);
@@ -111,7 +111,7 @@ product-square c s z h = le-trans (mul-le-mul h h) (le-of-eq (turn (c * s) ∙ a
     turn : (x : ℕ) → 2 * x * (2 * x) ≡ 4 * (x * x)
     turn x = simp (mul-assoc, mul-left-comm) (omega arith)
 
-pub sizes : (cn c sn s cn' c' sn' s' : ℕ) → IsTurn cn c sn s cn' c' sn' s' → c' * 2 ^ 63 * (c' * 2 ^ 63) + s' * 2 ^ 63 * (s' * 2 ^ 63) ≤ (c * c + s * s + 4 * 2 ^ 63) * (c * c + s * s + 4 * 2 ^ 63)
+pub sizes : (cn c sn s cn' c' sn' s' : ℕ) → IsDoubled cn c sn s cn' c' sn' s' → c' * 2 ^ 63 * (c' * 2 ^ 63) + s' * 2 ^ 63 * (s' * 2 ^ 63) ≤ (c * c + s * s + 4 * 2 ^ 63) * (c * c + s * s + 4 * 2 ^ 63)
 sizes cn c sn s zero c' sn' s' t = grown (c' * 2 ^ 63) (s' * 2 ^ 63) (c * c) (s * s) (4 * 2 ^ 63) (c * c - s * s) (near (c' * 2 ^ 63) (c * c) (s * s) (t .cosine .under)) (within (c * c) (s * s)) (either (c * c) (s * s)) (product-square c s (s' * 2 ^ 63) (t .sine-low))
   where
     near : (x X Y : ℕ) → x + Y ≤ X + 0 * 2 ^ 63 + 4 * 2 ^ 63 → x ≤ X - Y + 4 * 2 ^ 63

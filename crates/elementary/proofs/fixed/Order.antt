@@ -2,14 +2,15 @@
 use mathlib.Core.Path.{_≡_, sym, ap, _∙_, subst}
 use mathlib.Core.Logic.{_⊎_, inl, inr}
 use mathlib.Core.Bool.{Bool, true, false, _&&_, _||_, true≢false}
-use Prim.Native.Nat.{ℕ, _+_, _*_, _≤_, _<_, zero-le}
-use native.Mathlib.Nat.{le-trans, le-of-eq, le-of-lt, add-mul, mul-right-comm, mul-le-mul-right, le-of-mul-le-mul-right, zero-mul}
+use Prim.Native.Nat.{ℕ, zero, suc, _+_, _*_, _≤_, _<_, zero-le}
+use native.Mathlib.Nat.{le-trans, le-of-eq, le-of-lt, add-mul, mul-right-comm, mul-le-mul-right, le-of-mul-le-mul-right, zero-mul, zero-lt-suc}
 use native.Mathlib.Omega.{arith}
-use lib.Dec.{T, ltb, eqb, eqb→eq, ltb→lt}
-use lib.Ieee.{Float, nan, inf, fin, up, down, neg, le}
+use lib.Dec.{T, ltb, eqb, eqb→eq, ltb→lt, lt→ltb}
+use lib.IntN.{ℤ, pos}
+use lib.Ieee.{Float, nan, inf, fin, up, down, neg, lt, le}
 use lib.Ieee.Fits.{and-l, and-r}
 use lib.Ieee.Exact.{HasValue}
-use lib.Ieee.Positive.{den, den-pos}
+use lib.Ieee.Positive.{den, den-pos, positive}
 use lib.Ieee.Scale.{finite}
 use Rattle.elementary.specs.Within.{plus, less}
 use Rattle.elementary.specs.Inside.Fixed.{IsDifference, Lies}
@@ -144,3 +145,23 @@ lies-of low high r p q s t c l u o (inr h) =
       from = cleared p q c (den low) (den r) (plus low) (less low) (plus r) (less r) (den-pos low) (l .value) (ordered low r (l .number) f (h .0));
       upto = cleared-up s t c (den high) (den r) (plus high) (less high) (plus r) (less r) (den-pos high) (u .value) (ordered r high f (u .number) (h .1));
     }
+
+-- ---- a double above zero that is finite
+pub above-of : (x : Float) → T (lt (fin false 0 (pos 0)) x) → T (lt x (inf false)) → T (positive x)
+unfolding lt
+above-of nan h k = absurd h
+above-of (inf true) h k = absurd h
+above-of (inf false) h k = absurd k
+above-of (fin true m e) h k = absurd h
+above-of (fin false zero e) h k = absurd (go (0 * 1 * down e) (0 * up e * 1) (ap (λ (x : ℕ). x * 1) (zero-mul (up e))) (ltb→lt (0 * 1 * down e) (0 * up e * 1) h))
+  where
+    go : (a b : ℕ) → b ≡ 0 → a < b → ⊥
+    go a b e l = omega arith
+above-of (fin false (suc m) e) h k = lt→ltb 0 (suc m) (zero-lt-suc m)
+
+pub below-finite : (x : Float) (s : Bool) (m : ℕ) (e : ℤ) → T (lt x (fin s m e)) → T (lt x (inf false))
+unfolding lt
+below-finite nan s m e h = h
+below-finite (inf true) s m e h = tt
+below-finite (inf false) s m e h = h
+below-finite (fin t n d) s m e h = tt

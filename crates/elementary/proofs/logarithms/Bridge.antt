@@ -1,6 +1,5 @@
 -- From the logarithms of whole numbers to those of doubles. F stands for `fine`, which is never opened here. Assumes nothing.
 use mathlib.Core.Path.{_≡_, sym, ap, _∙_}
-use mathlib.Core.Bool.{false}
 use Prim.Native.Nat.{ℕ, _+_, _*_, _^_, _≤_, _<_}
 use native.Mathlib.Nat.{le-trans, le-of-eq, mul-comm, mul-one, one-mul, zero-mul, mul-right-comm, mul-pos, mul-le-mul, mul-le-mul-left, mul-le-mul-right, le-of-mul-le-mul-right, pow-le-pow-left, pow-le-pow-right, zero-lt-suc, add-mul, pow-zero}
 use native.Mathlib.Omega.{arith}
@@ -8,8 +7,7 @@ use lib.Pow.{pow-add, pow-pos, pow-mono}
 use lib.Dec.{T}
 use lib.Ieee.{Float}
 use lib.Ieee.Scale.{finite}
-use lib.Ieee.Exact.{HasValue}
-use lib.Ieee.Positive.{num, den, value→cross}
+use lib.Ieee.Positive.{num, den}
 use Rattle.elementary.specs.Within.{plus, less}
 use Rattle.elementary.specs.Log10.{Near}
 use Rattle.elementary.specs.Inside.Fixed.{Lies}
@@ -151,7 +149,7 @@ counts-over e k u h = omega arith
 top : (2 ^ 1074 * 2 ^ 1074) ^ fine ≡ 2 ^ (2148 * fine)
 top = pow-of-pow 2 2148 fine
 
-module _ (x r : Float) (m e k u R : ℕ) (is : HasValue x false (m * 2 ^ e) (2 ^ 1074 * 2 ^ 1074)) (least : 2 ^ 52 ≤ m) (b : BinaryLog m k) (l : TenLog u R) where
+module _ (x r : Float) (m e k u R : ℕ) (is : num x * (2 ^ 1074 * 2 ^ 1074) ≡ m * 2 ^ e * den x) (least : 2 ^ 52 ≤ m) (b : BinaryLog m k) (l : TenLog u R) where
   Z-pos : 0 < m * 2 ^ e
   Z-pos =
       let p : 0 < m = omega arith in
@@ -163,7 +161,7 @@ module _ (x r : Float) (m e k u R : ℕ) (is : HasValue x false (m * 2 ^ e) (2 ^
   -- below 1: r lies from -(R + 3) / fine to -T / fine, T being R less 1
   pub near-under : (T : ℕ) → R ≤ T + 1 → e * 4194304 + k + u ≡ 9009364992 → Lies r 0 (R + 3) 0 T (2 ^ 22) → Near x r
   near-under T last h v =
-      near-of x r (m * 2 ^ e) (2 ^ 1074 * 2 ^ 1074) 0 (R + 3) R 1 D-pos Z-pos (value→cross x (m * 2 ^ e) (2 ^ 1074 * 2 ^ 1074) is) (v .number)
+      near-of x r (m * 2 ^ e) (2 ^ 1074 * 2 ^ 1074) 0 (R + 3) R 1 D-pos Z-pos is (v .number)
       (under-low ((m * 2 ^ e) ^ fine) (count e k) (2148 * fine) u R ((2 ^ 1074 * 2 ^ 1074) ^ fine) (raised-low m e k b) top (counts-under e k u h) l)
       (under-high ((m * 2 ^ e) ^ fine) (count e k) (2148 * fine) u R ((2 ^ 1074 * 2 ^ 1074) ^ fine) (raised-high m e k b) top (counts-under e k u h) l)
       (upper (plus r * 2 ^ 22) (less r * 2 ^ 22) ((R + 3) * den r) (T * den r) (0 * den r) (den r) (zero-mul (den r)) (le-trans (mul-le-mul-right (den r) (more R T last)) (le-of-eq (add-mul T 4 (den r)))) (v .upto))
@@ -181,7 +179,7 @@ module _ (x r : Float) (m e k u R : ℕ) (is : HasValue x false (m * 2 ^ e) (2 ^
   -- from 1 on: r lies from R / fine to (R + 3) / fine
   pub near-over : e * 4194304 + k ≡ 9009364992 + u → Lies r R 0 (R + 3) 0 (2 ^ 22) → Near x r
   near-over h v =
-      near-of x r (m * 2 ^ e) (2 ^ 1074 * 2 ^ 1074) R 0 0 (R + 3) D-pos Z-pos (value→cross x (m * 2 ^ e) (2 ^ 1074 * 2 ^ 1074) is) (v .number)
+      near-of x r (m * 2 ^ e) (2 ^ 1074 * 2 ^ 1074) R 0 0 (R + 3) D-pos Z-pos is (v .number)
       (over-low ((m * 2 ^ e) ^ fine) (count e k) (2148 * fine) u R ((2 ^ 1074 * 2 ^ 1074) ^ fine) (raised-low m e k b) top (counts-over e k u h) l)
       (over-high ((m * 2 ^ e) ^ fine) (count e k) (2148 * fine) u R ((2 ^ 1074 * 2 ^ 1074) ^ fine) (raised-high m e k b) top (counts-over e k u h) l)
       (upper (plus r * 2 ^ 22 + 0 * den r) (less r * 2 ^ 22) (R * den r) (den r) (le-trans (v .upto) (le-of-eq (ap (λ (z : ℕ). z + less r * 2 ^ 22) (add-mul R 3 (den r))))))

@@ -20,7 +20,7 @@ use Rattle.elementary.specs.Inside.Circle.{State, plus, less}
 use Rattle.elementary.specs.Inside.Small.{IsSplit, IsRoot, Alternating}
 use Rattle.elementary.proofs.circle.Sums.{sum-cong}
 use Rattle.elementary.proofs.circle.Terms.{term-law}
-use Rattle.elementary.proofs.sines.Alternate.{two-law, peel, east-further, west-further, east-most, west-most}
+use Rattle.elementary.proofs.small.Alternate.{two-law, peel, east-further, west-further, east-most, west-most}
 use Rattle.elementary.proofs.circle.Signed.{apart-times}
 use Rattle.elementary.proofs.sines.Doubles.{within-own}
 use Rattle.elementary.proofs.sines.Range.{Whole}

@@ -2,7 +2,7 @@
 use mathlib.Core.Path.{_≡_, refl, sym, ap, _∙_, subst}
 use mathlib.Core.Bool.{Bool, true, false, not, _&&_, _||_, true≢false}
 use Prim.Native.Nat.{ℕ, zero, suc, _+_, _-_, _*_, _/_, _%_, _^_, _≤_, _<_, zero-le}
-use native.Mathlib.Nat.{le-trans, le-of-eq, le-of-lt, lt-irrefl, lt-of-lt-of-le, lt-of-le-of-lt, lt-of-not-le, mul-comm, mul-assoc, mul-right-comm, mul-left-comm, mul-le-mul-right, le-of-mul-le-mul-right, mul-pos, one-mul, mul-one, zero-mul, eq-of-mul-eq-mul-right, mod-eq-of-lt, zero-lt-suc, div-mul-le-self, lt-div-mul-add, suc-mul, le-antisymm, lt-of-mul-lt-mul-right, mul-lt-mul-of-pos-right, eq-or-lt-of-le}
+use native.Mathlib.Nat.{le-trans, le-of-eq, le-of-lt, lt-irrefl, lt-of-lt-of-le, lt-of-le-of-lt, lt-of-not-le, mul-comm, mul-assoc, mul-right-comm, mul-left-comm, mul-le-mul-right, le-of-mul-le-mul-right, mul-pos, one-mul, mul-one, zero-mul, eq-of-mul-eq-mul-right, mod-eq-of-lt, zero-lt-suc, div-mul-le-self, lt-div-mul-add, suc-mul, lt-of-mul-lt-mul-right, mul-lt-mul-of-pos-right, eq-or-lt-of-le}
 use native.Mathlib.Decide.{decLe}
 use native.Mathlib.Omega.{arith}
 use lib.IntN.{ℤ, pos}
@@ -13,10 +13,11 @@ use lib.Ieee.{Float, nan, inf, fin, up, down, lt, le, eq, binary64, ofBits}
 use lib.Ieee.Fits.{up-pos, down-pos, and-l}
 use lib.Ieee.Positive.{num, den, positive, between, le→cross}
 use lib.Ieee.Scale.{finite}
+use Rattle.elementary.proofs.fixed.Order.{above-of, below-finite}
 use Rattle.elementary.specs.Inside.Small.{IsSplit}
 use Rattle.elementary.specs.Inside.Arctangent.{IsFine}
 use Rattle.elementary.specs.Within as C
-use borrow.Author.Tests.{ltb-false, eqb-false}
+use borrow.Author.Tests.{ltb-false}
 
 pub positive-of : (x : Float) → T (le (fin false 1 (pos 0)) x) → T (le x (fin false 25 (pos 3))) → T (positive x)
 positive-of x h k = between (fin false 1 (pos 0)) x (fin false 25 (pos 3)) tt tt h k
@@ -95,18 +96,6 @@ pub shift-fits : (e : ℕ) → e ≤ 2103 → e - 2096 < 64
 shift-fits e h = omega arith
 
 -- ---- below 1
-pub small-positive : (x : Float) → T (lt (fin false 0 (pos 0)) x) → T (lt x (fin false 1 (pos 0))) → T (positive x)
-unfolding lt
-small-positive nan h k = absurd h
-small-positive (inf true) h k = absurd h
-small-positive (inf false) h k = absurd k
-small-positive (fin true m e) h k = absurd h
-small-positive (fin false zero e) h k = absurd (go (0 * 1 * down e) (0 * up e * 1) (ap (λ (x : ℕ). x * 1) (zero-mul (up e))) (ltb→lt (0 * 1 * down e) (0 * up e * 1) h))
-  where
-    go : (a b : ℕ) → b ≡ 0 → a < b → ⊥
-    go a b e l = omega arith
-small-positive (fin false (suc m) e) h k = lt→ltb 0 (suc m) (zero-lt-suc m)
-
 pub below-one : (x : Float) → T (lt (fin false 0 (pos 0)) x) → T (lt x (fin false 1 (pos 0))) → num x < den x
 unfolding lt
 below-one nan h k = absurd h
@@ -132,36 +121,6 @@ is-zero (inf s) h z = refl
 is-zero (fin s zero e) h z = zero-mul (up e)
 is-zero (fin false (suc m) e) h z = absurd (not-under (0 * 1 * down e) (suc m * up e * 1) (zero-mul (down e)) (side m e) (ltb-false (0 * 1 * down e) (suc m * up e * 1) z))
 is-zero (fin true (suc m) e) h z = absurd (apart-from (0 * 1 * down e) (suc m * up e * 1) (zero-mul (down e)) (side m e) (eqb→eq (0 * 1 * down e) (suc m * up e * 1) (and-l (eqb (0 * 1 * down e) (suc m * up e * 1)) (eqb (0 * 1 * down e) 0) h)))
-
--- not from 1 on, and above zero: below 1
-pub below-of : (x : Float) → le (fin false 1 (pos 0)) x ≡ false → T (lt (fin false 0 (pos 0)) x) → T (lt x (fin false 1 (pos 0)))
-unfolding lt le
-below-of nan h p = absurd p
-below-of (inf true) h p = absurd p
-below-of (inf false) h p = absurd (true≢false h)
-below-of (fin true m e) h p = absurd p
-below-of (fin false m e) h p = lt→ltb (m * up e * 1) (1 * 1 * down e) (go (1 * 1 * down e) (m * up e * 1) h)
-  where
-    or-left : (a b : Bool) → (a || b) ≡ false → a ≡ false
-    or-left true b k = k
-    or-left false b k = refl
-
-    or-right : (a b : Bool) → (a || b) ≡ false → b ≡ false
-    or-right true b k = absurd (true≢false k)
-    or-right false b k = k
-
-    and-true : (a : Bool) → (a && true) ≡ false → a ≡ false
-    and-true true k = k
-    and-true false k = refl
-
-    go : (a b : ℕ) → (ltb a b || (eqb a b && true)) ≡ false → b < a
-    go a b k = strict a b (ltb-false a b (or-left (ltb a b) (eqb a b && true) k)) (λ q. differs a b (and-true (eqb a b) (or-right (ltb a b) (eqb a b && true) k)) q)
-      where
-        strict : (a b : ℕ) → b ≤ a → (a ≡ b → ⊥) → b < a
-        strict a b l f = elim (decLe a b) [ yes y ↦ absurd (f (le-antisymm y l)) | no n ↦ lt-of-not-le n ]
-
-        differs : (a b : ℕ) → eqb a b ≡ false → a ≡ b → ⊥
-        differs a b k q = eqb-false a b k q
 
 -- ---- from 2 ^ -27 to 1
 weaker : (x y : Float) → T (lt x y) → T (le x y)
@@ -292,16 +251,7 @@ from-of (fin true (suc m) e) p d h k = absurd (apart-from (0 * 1 * down e) (suc 
 
 -- ---- below 2, in units of 2 ^ -58
 pub two-positive : (x : Float) → T (lt (fin false 0 (pos 0)) x) → T (lt x (fin false 1 (pos 1))) → T (positive x)
-unfolding lt
-two-positive nan h k = absurd h
-two-positive (inf true) h k = absurd h
-two-positive (inf false) h k = absurd k
-two-positive (fin true m e) h k = absurd h
-two-positive (fin false zero e) h k = absurd (go (0 * 1 * down e) (0 * up e * 1) (ap (λ (x : ℕ). x * 1) (zero-mul (up e))) (ltb→lt (0 * 1 * down e) (0 * up e * 1) h))
-  where
-    go : (a b : ℕ) → b ≡ 0 → a < b → ⊥
-    go a b e l = omega arith
-two-positive (fin false (suc m) e) h k = lt→ltb 0 (suc m) (zero-lt-suc m)
+two-positive x h k = above-of x h (below-finite x false 1 (pos 1) k)
 
 pub below-two : (x : Float) → T (lt (fin false 0 (pos 0)) x) → T (lt x (fin false 1 (pos 1))) → num x < 2 * den x
 unfolding lt
@@ -392,19 +342,6 @@ whole-zero (inf false) h k z = absurd k
 whole-zero (fin false m e) h k z = record { number = tt; more = refl; none = refl }
 whole-zero (fin true zero e) h k z = record { number = tt; more = sym (zero-mul (up e)); none = zero-mul (up e) }
 whole-zero (fin true (suc m) e) h k z = absurd (apart-from (0 * 1 * down e) (suc m * up e * 1) (zero-mul (down e)) (side m e) (eqb→eq (0 * 1 * down e) (suc m * up e * 1) (and-l (eqb (0 * 1 * down e) (suc m * up e * 1)) (eqb (0 * 1 * down e) 0) h)))
-
--- above zero and below the infinity
-pub above-of : (x : Float) → T (lt (fin false 0 (pos 0)) x) → T (lt x (inf false)) → T (positive x)
-unfolding lt
-above-of nan h k = absurd h
-above-of (inf true) h k = absurd h
-above-of (inf false) h k = absurd k
-above-of (fin true m e) h k = absurd h
-above-of (fin false zero e) h k = absurd (go (0 * 1 * down e) (0 * up e * 1) (ap (λ (x : ℕ). x * 1) (zero-mul (up e))) (ltb→lt (0 * 1 * down e) (0 * up e * 1) h))
-  where
-    go : (a b : ℕ) → b ≡ 0 → a < b → ⊥
-    go a b e l = omega arith
-above-of (fin false (suc m) e) h k = lt→ltb 0 (suc m) (zero-lt-suc m)
 
 -- ---- what two tests say of both
 pub inside : (a b : Bool) → a ≡ true → b ≡ true → T (not (a && b)) → ⊥

@@ -24,7 +24,7 @@ less zero n = 0
 less (suc k) n = n
 
 -- What one doubling makes of a cosine and a sine in units of 2 ^ -63: the difference of the squares, and twice the product.
-pub record IsTurn (cn c sn s cn' c' sn' s' : ℕ) : Type 0 where
+pub record IsDoubled (cn c sn s cn' c' sn' s' : ℕ) : Type 0 where
   pub cosine : Apart (plus cn' c' * 2 ^ 63) (less cn' c' * 2 ^ 63) (c * c) (s * s) (4 * 2 ^ 63)
   pub sign : cn' ≤ 1
   pub sine-low : s' * 2 ^ 63 ≤ 2 * (c * s)
@@ -50,7 +50,7 @@ unfoldable pub error : ℕ → ℕ
 error zero = 16
 error (suc j) = 3 * error j + 9
 
--- the same of y / 2 ^ (63 - turns), with signs, for a y of at most 200 * 2 ^ 52: the whole part of a / b * 2 ^ 52
+-- the same of y / 2 ^ (63 - doublings), with signs, for a y of at most 200 * 2 ^ 52: the whole part of a / b * 2 ^ 52
 abbrev pub IsCircle : ℕ → ℕ → ℕ → ℕ → ℕ → ℕ → Type 0
-IsCircle y turns cn c sn s = (a b N : ℕ) → 0 < b → a ≤ 200 * b → y * b ≤ a * 2 ^ 52 → a * 2 ^ 52 ≤ suc y * b → 600 ≤ N
-    → State (term a (b * 2 ^ (11 - turns)) N) (term a (b * 2 ^ (11 - turns)) N 0) N (2 ^ 63) (error turns) (plus cn c) (less cn c) (plus sn s) (less sn s)
+IsCircle y doublings cn c sn s = (a b N : ℕ) → 0 < b → a ≤ 200 * b → y * b ≤ a * 2 ^ 52 → a * 2 ^ 52 ≤ suc y * b → 600 ≤ N
+    → State (term a (b * 2 ^ (11 - doublings)) N) (term a (b * 2 ^ (11 - doublings)) N 0) N (2 ^ 63) (error doublings) (plus cn c) (less cn c) (plus sn s) (less sn s)

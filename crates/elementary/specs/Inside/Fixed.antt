@@ -3,9 +3,17 @@ use Prim.Native.Nat.{ℕ, _+_, _*_, _^_, _≤_, _<_}
 use mathlib.Core.Path.{_≡_}
 use lib.Dec.{T}
 use lib.Ieee.{Float}
-use lib.Ieee.Positive.{den}
+use lib.Ieee.Positive.{num, den}
 use lib.Ieee.Scale.{finite}
 use Rattle.elementary.specs.Within.{plus, less}
+
+-- x is m * 2 ^ e / 2 ^ 2148, and m has 53 binary digits
+pub record IsUnpacked (x : Float) (m e : ℕ) : Type 0 where
+  pub least : 2 ^ 52 ≤ m
+  pub most : m < 2 ^ 53
+  pub from : 1022 ≤ e
+  pub upto : e ≤ 3119
+  pub value : num x * (2 ^ 1074 * 2 ^ 1074) ≡ m * 2 ^ e * den x
 
 -- r is a * b / 2 ^ 63, or less than that by less than 4
 pub record IsHigh (a b r : ℕ) : Type 0 where

@@ -24,7 +24,7 @@ pub record IsSquare (m k q : ℕ) : Type 0 where
   pub near : (a b : ℕ) → a * (2 ^ 63 * 2 ^ k) ≡ m * b → IsRoot a b q
 
 -- r is 1 - g * q / n, or more by less than 6
-pub record IsDown (g q n r : ℕ) : Type 0 where
+pub record IsHorner (g q n r : ℕ) : Type 0 where
   pub taken : ℕ
   pub whole : r + taken ≡ 2 ^ 63
   pub low : taken * n * 2 ^ 63 ≤ g * q

@@ -1,39 +1,23 @@
 -- `arctangents::arctangent_above_zero` meets its contract. Assumes nothing.
-use mathlib.Core.Path.{_≡_, sym, subst}
-use mathlib.Core.Bool.{false}
+use mathlib.Core.Path.{sym, subst}
 use Prim.Native.Nat.{ℕ, suc, _+_, _*_, _/_, _^_, _≤_, _<_}
 use native.Mathlib.Nat.{le-trans, le-of-eq, add-le-add, le-refl, mul-le-mul-right, add-mul}
 use native.Mathlib.Omega.{arith}
 use lib.Dec.{T}
-use lib.Ieee.{Float, binary64, fits, ofBits}
-use lib.Ieee.Bits.{ofBits-toBits}
-use lib.Ieee.Exact.{HasValue}
-use lib.Ieee.Positive.{num, den, positive, positive-finite, value→cross}
+use lib.Ieee.{ofBits}
+use lib.Ieee.Positive.{num, den, positive, positive-finite}
 use borrow.Author.Needs.{needs}
-use Rattle.arith.proofs.Laws.{number-above-zero, bits-above-zero, bits-below-infinity}
-use Rattle.elementary.proofs.sines.Range.{above-of, two-positive, less-none}
+use Rattle.elementary.proofs.sines.Range.{two-positive, less-none}
+use Rattle.elementary.proofs.fixed.Order.{above-of}
 use Rattle.elementary.proofs.arctangents.Sides.{found-is}
 use Rattle.elementary.proofs.arctangents.arctangent_above_zero.Statement.{statement}
 use Rattle.elementary.proofs.arctangents.arctangent_above_zero.Tie as tie
 
-held : (c : tie.Start) → T (fits binary64 (c .args .x))
-held c = subst T (sym (c .good .0 .1)) tt
-
 above : (c : tie.Start) → T (positive (c .args .x))
 above c = above-of (c .args .x) (c .pre .0) (c .pre .1)
 
-valued : (c : tie.After-scale) → num (c .before .args .x) * (2 ^ 1074 * 2 ^ 1074) ≡ c .scale .result .m * 2 ^ c .scale .result .e * den (c .before .args .x)
-valued c =
-    let x = c .before .args .x in
-    let m = c .scale .result .m in
-    let e = c .scale .result .e in
-    value→cross x (m * 2 ^ e) (2 ^ 1074 * 2 ^ 1074) (subst (λ (z : Float). HasValue z false (m * 2 ^ e) (2 ^ 1074 * 2 ^ 1074)) (ofBits-toBits binary64 x (held (c .before))) (c .scale .ensures .value))
-
-float-to-bits-scale : tie.Need-float-to-bits-scale
-float-to-bits-scale c = number-above-zero (c .args .x) (above c)
-
-scale-requires : tie.Need-scale-requires
-scale-requires c κs = (bits-above-zero (c .args .x) (held c) (above c), bits-below-infinity (c .args .x) (held c) (above c))
+unpack-requires : tie.Need-unpack-requires
+unpack-requires c κs = above c
 
 guess-requires : tie.Need-guess-requires
 guess-requires c κs = search needs
@@ -52,7 +36,7 @@ downto : (y l : ℕ) → y < 7 * 2 ^ 56 → l ≤ y → l ≤ 2 ^ 59
 downto y l h k = omega arith
 
 encloses-requires : tie.Need-encloses-requires
-encloses-requires c κs = (upto (c .before .before .fine .result) (c .beneath .result) (c .before .if3 .taken) (c .beneath .ensures .0), c .before .before .before .before .before .before .scale .ensures .least, c .before .before .before .before .before .before .scale .ensures .most)
+encloses-requires c κs = (upto (c .before .before .fine .result) (c .beneath .result) (c .before .if3 .taken) (c .beneath .ensures .0), c .before .before .before .before .before .before .unpack .ensures .least, c .before .before .before .before .before .before .unpack .ensures .most)
 
 -- the bounds are 2 ^ -40 apart, and the guess is between them
 near-low : (y l : ℕ) → y ≤ l + 2 ^ 17 → suc y ≤ l + 2 ^ 18
@@ -79,12 +63,12 @@ returns c =
       up-near = le-trans (mul-le-mul-right (den g) (near-up (f .result) (b .result) (b .ensures .0))) (le-trans (le-of-eq (add-mul (f .result) (2 ^ 18) (den g))) (add-le-add (f .ensures .low) (le-refl (2 ^ 18 * den g))));
       low-upto-two = downto (f .result) (b .result) (c .before .before .before .if3 .taken) (b .ensures .0);
       up-upto-two = upto (f .result) (b .result) (c .before .before .before .if3 .taken) (b .ensures .0);
-      from-below = t .from-below (num x) (den x) (valued (c .before .before .before .before .before .before .before .before));
-      from-above = t .from-above (num x) (den x) (valued (c .before .before .before .before .before .before .before .before));
+      from-below = t .from-below (num x) (den x) (c .before .before .before .before .before .before .before .before .unpack .ensures .value);
+      from-above = t .from-above (num x) (den x) (c .before .before .before .before .before .before .before .before .unpack .ensures .value);
     }
 
 bisected-requires : tie.Need-bisected-requires
-bisected-requires c κs = (c .before .before .scale .ensures .least, c .before .before .scale .ensures .most)
+bisected-requires c κs = (c .before .before .unpack .ensures .least, c .before .before .unpack .ensures .most)
 
 less-than : (l u : ℕ) → l < u → u ≤ 2 ^ 59 → l / 2 ^ 6 < 2 ^ 53
 less-than l u h k = omega arith
@@ -95,8 +79,8 @@ parts-requires c κs = less-than (c .bisected .result) (c .bisected .ensures .up
 returns-2 : tie.Need-returns-2
 returns-2 c =
     let f = c .before .bisected in
-    let s = c .before .before .before .before .scale in
-    found-is (c .before .before .before .before .before .args .x) (c .parts .result) (f .result) (s .result .m) (s .result .e) (f .ensures) (c .parts .ensures) (valued (c .before .before .before .before))
+    let s = c .before .before .before .before .unpack in
+    found-is (c .before .before .before .before .before .args .x) (c .parts .result) (f .result) (s .result .m) (s .result .e) (f .ensures) (c .parts .ensures) (c .before .before .before .before .unpack .ensures .value)
 
 pub arctangent-above-zero-spec : {M : Type 1} → statement M
-arctangent-above-zero-spec = tie.close (tie.spec float-to-bits-scale scale-requires guess-requires fine-requires beneath-requires encloses-requires returns bisected-requires parts-requires returns-2)
+arctangent-above-zero-spec = tie.close (tie.spec unpack-requires guess-requires fine-requires beneath-requires encloses-requires returns bisected-requires parts-requires returns-2)

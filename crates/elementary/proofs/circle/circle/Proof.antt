@@ -4,7 +4,7 @@ use Prim.Native.Nat.{ℕ, _+_, _-_, _*_, _^_, _≤_, _<_, zero-le}
 use native.Mathlib.Nat.{le-trans, le-of-eq, add-comm}
 use native.Mathlib.Omega.{arith}
 use native.Mathlib.Numerals.{add-one}
-use Rattle.elementary.proofs.circle.Follows.{Follows, follows-first, follows-next, follows-last, turn-fits, size-most}
+use Rattle.elementary.proofs.circle.Follows.{Follows, follows-first, follows-next, follows-last, doubled-fits, size-most}
 use Rattle.elementary.proofs.circle.circle.Statement.{statement}
 use Rattle.elementary.proofs.circle.circle.Tie as tie
 
@@ -35,36 +35,36 @@ first-requires c κs = c .pre .0
 loop-holds : tie.Need-loop-holds Inv-loop μ-loop
 loop-holds c = (zero-le, follows-first (c .before .args .y) (c .first .result .c) (c .first .result .s) (c .first .ensures))
 
-turn-requires : tie.Need-turn-requires Inv-loop μ-loop
-turn-requires c κs =
+doubled-requires : tie.Need-doubled-requires Inv-loop μ-loop
+doubled-requires c κs =
     let l = c .before .loop in
-    let n = c .before .before .before .args .turns in
+    let n = c .before .before .before .args .doublings in
     let t = ten (l .j) n (c .loop-test .taken) (c .before .before .before .pre .1) in
-    (turn-fits (l .c * l .c + l .s * l .s) (l .j) t (l .inv .1 .size), l .inv .1 .c-sign, l .inv .1 .s-sign)
+    (doubled-fits (l .c * l .c + l .s * l .s) (l .j) t (l .inv .1 .size), l .inv .1 .c-sign, l .inv .1 .s-sign)
 
 add-j : tie.Need-add-j Inv-loop μ-loop
 add-j c =
     let b = c .before .before .before .before in
-    record { fits = room (c .before .before .loop .j) (b .args .turns) (c .before .loop-test .taken) (b .pre .1) }
+    record { fits = room (c .before .before .loop .j) (b .args .doublings) (c .before .loop-test .taken) (b .pre .1) }
 
 loop-less : tie.Need-loop-less Inv-loop μ-loop
-loop-less c = falls (c .before .before .loop .j) (c .before .before .before .before .args .turns) (c .before .loop-test .taken)
+loop-less c = falls (c .before .before .loop .j) (c .before .before .before .before .args .doublings) (c .before .loop-test .taken)
 
 loop-again : tie.Need-loop-again Inv-loop μ-loop
 loop-again c =
     let l = c .before .before .loop in
     let b = c .before .before .before .before in
     let y = b .args .y in
-    let n = b .args .turns in
-    let r = c .turn .result in
-    (on (l .j) n (c .before .loop-test .taken), rw (add-one (l .j)) (follows-next y (l .j) (l .cn) (l .c) (l .sn) (l .s) (r .cn) (r .c) (r .sn) (r .s) (b .pre .0) (ten (l .j) n (c .before .loop-test .taken) (b .pre .1)) (l .inv .1) (c .turn .ensures)))
+    let n = b .args .doublings in
+    let r = c .doubled .result in
+    (on (l .j) n (c .before .loop-test .taken), rw (add-one (l .j)) (follows-next y (l .j) (l .cn) (l .c) (l .sn) (l .s) (r .cn) (r .c) (r .sn) (r .s) (b .pre .0) (ten (l .j) n (c .before .loop-test .taken) (b .pre .1)) (l .inv .1) (c .doubled .ensures)))
 
 returns : tie.Need-returns Inv-loop μ-loop
 returns c =
     let l = c .before .loop in
     let b = c .before .before .before in
     let y = b .args .y in
-    let n = b .args .turns in
+    let n = b .args .doublings in
     let f = subst (λ (j : ℕ). Follows y j (l .cn) (l .c) (l .sn) (l .s)) (last (l .j) n (l .inv .0) (c .loop-test .left)) (l .inv .1) in
     (follows-last y n (l .cn) (l .c) (l .sn) (l .s) (b .pre .1) f, (size-most (l .c) (l .s) n (b .pre .1) (f .size), size-most (l .s) (l .c) n (b .pre .1) (le-trans (le-of-eq (add-comm (l .s * l .s) (l .c * l .c))) (f .size))))
 
@@ -76,7 +76,7 @@ circle-spec =
     μ-loop
     first-requires
     loop-holds
-    turn-requires
+    doubled-requires
     add-j
     loop-less
     loop-again

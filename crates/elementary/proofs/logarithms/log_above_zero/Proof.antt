@@ -1,62 +1,45 @@
 -- `logarithms::log_above_zero` meets its contract. Assumes nothing.
-use mathlib.Core.Path.{sym, subst}
-use mathlib.Core.Bool.{false}
-use Prim.Native.Nat.{ℕ, _+_, _-_, _*_, _^_, _≤_, _<_}
+use Prim.Native.Nat.{ℕ, _+_, _-_, _^_, _≤_, _<_}
 use native.Mathlib.Omega.{arith}
-use lib.Dec.{T}
-use lib.Ieee.{Float, binary64, fits}
-use lib.Ieee.Bits.{ofBits-toBits}
-use lib.Ieee.Exact.{HasValue}
 use borrow.Author.Needs.{needs}
-use Rattle.arith.proofs.Laws.{number-above-zero, bits-above-zero, bits-below-infinity}
-use Rattle.elementary.proofs.logarithms.Above.{above-of}
+use Rattle.elementary.proofs.fixed.Order.{above-of}
 use Rattle.elementary.proofs.logarithms.Bridge.{near-under, near-over}
 use Rattle.elementary.proofs.logarithms.log_above_zero.Statement.{statement}
 use Rattle.elementary.proofs.logarithms.log_above_zero.Tie as tie
 
-held : (c : tie.Start) → T (fits binary64 (c .args .x))
-held c = subst T (sym (c .good .0 .1)) tt
-
--- what the parts of x say of it
-valued : (c : tie.After-scale) → HasValue (c .before .args .x) false (c .scale .result .m * 2 ^ c .scale .result .e) (2 ^ 1074 * 2 ^ 1074)
-valued c = subst (λ (y : Float). HasValue y false (c .scale .result .m * 2 ^ c .scale .result .e) (2 ^ 1074 * 2 ^ 1074)) (ofBits-toBits binary64 (c .before .args .x) (held (c .before))) (c .scale .ensures .value)
-
-float-to-bits-scale : tie.Need-float-to-bits-scale
-float-to-bits-scale c = number-above-zero (c .args .x) (above-of (c .args .x) (c .pre .0) (c .pre .1))
-
-scale-requires : tie.Need-scale-requires
-scale-requires c κs = (bits-above-zero (c .args .x) (held c) (above-of (c .args .x) (c .pre .0) (c .pre .1)), bits-below-infinity (c .args .x) (held c) (above-of (c .args .x) (c .pre .0) (c .pre .1)))
+unpack-requires : tie.Need-unpack-requires
+unpack-requires c κs = above-of (c .args .x) (c .pre .0) (c .pre .1)
 
 mul-t : tie.Need-mul-t
-mul-t c = omega (arith, c .scale .ensures .upto)
+mul-t c = omega (arith, c .unpack .ensures .upto)
 
 binary-log-requires : tie.Need-binary-log-requires
-binary-log-requires c κs = (c .scale .ensures .least, c .scale .ensures .most)
+binary-log-requires c κs = (c .unpack .ensures .least, c .unpack .ensures .most)
 
 add-t : tie.Need-add-t
-add-t c = omega (arith, c .before .scale .ensures .upto, c .binary-log .ensures .most)
+add-t c = omega (arith, c .before .unpack .ensures .upto, c .binary-log .ensures .most)
 
 -- the exponent is a double
 small : (e : ℕ) → e ≤ 3119 → e < 2 ^ 53
 small e h = omega arith
 
 guess-requires : tie.Need-guess-requires
-guess-requires c κs = (c .before .before .scale .ensures .most, small (c .before .before .scale .result .e) (c .before .before .scale .ensures .upto))
+guess-requires c κs = (c .before .before .unpack .ensures .most, small (c .before .before .unpack .result .e) (c .before .before .unpack .ensures .upto))
 
 sub-ten-log : tie.Need-sub-ten-log
 sub-ten-log c = search needs
 
 ten-log-requires : tie.Need-ten-log-requires
-ten-log-requires c κs = omega (arith, c .before .before .before .scale .ensures .from, c .before .before .binary-log .ensures .least)
+ten-log-requires c κs = omega (arith, c .before .before .before .unpack .ensures .from, c .before .before .binary-log .ensures .least)
 
 tested-below-requires : tie.Need-tested-below-requires
 tested-below-requires c κs = c .ten-log .ensures .most
 
 guess-requires-2 : tie.Need-guess-requires-2
-guess-requires-2 c κs = (c .before .before .scale .ensures .most, small (c .before .before .scale .result .e) (c .before .before .scale .ensures .upto))
+guess-requires-2 c κs = (c .before .before .unpack .ensures .most, small (c .before .before .unpack .result .e) (c .before .before .unpack .ensures .upto))
 
 ten-log-requires-2 : tie.Need-ten-log-requires-2
-ten-log-requires-2 c κs = omega (arith, c .before .before .before .scale .ensures .upto, c .before .before .binary-log .ensures .most)
+ten-log-requires-2 c κs = omega (arith, c .before .before .before .unpack .ensures .upto, c .before .before .binary-log .ensures .most)
 
 tested-above-requires : tie.Need-tested-above-requires
 tested-above-requires c κs = c .ten-log2 .ensures .most
@@ -69,14 +52,14 @@ returns c =
     let a = c .before .before .before .before .before in
     let k = c .before .before .before .before .binary-log in
     let l = c .before .ten-log in
-    near-under (a .before .args .x) (c .tested-below .result) (a .scale .result .m) (a .scale .result .e) (k .result) _ (l .result) (valued a) (a .scale .ensures .least) (k .ensures) (l .ensures) (l .result - 1) (last (l .result)) (omega arith) (c .tested-below .ensures)
+    near-under (a .before .args .x) (c .tested-below .result) (a .unpack .result .m) (a .unpack .result .e) (k .result) _ (l .result) (a .unpack .ensures .value) (a .unpack .ensures .least) (k .ensures) (l .ensures) (l .result - 1) (last (l .result)) (omega arith) (c .tested-below .ensures)
 
 returns-2 : tie.Need-returns-2
 returns-2 c =
     let a = c .before .before .before .before .before in
     let k = c .before .before .before .before .binary-log in
     let l = c .before .ten-log2 in
-    near-over (a .before .args .x) (c .tested-above .result) (a .scale .result .m) (a .scale .result .e) (k .result) _ (l .result) (valued a) (a .scale .ensures .least) (k .ensures) (l .ensures) (omega arith) (c .tested-above .ensures)
+    near-over (a .before .args .x) (c .tested-above .result) (a .unpack .result .m) (a .unpack .result .e) (k .result) _ (l .result) (a .unpack .ensures .value) (a .unpack .ensures .least) (k .ensures) (l .ensures) (omega arith) (c .tested-above .ensures)
 
 pub log-above-zero-spec : {M : Type 1} → statement M
-log-above-zero-spec = tie.close (tie.spec float-to-bits-scale scale-requires mul-t binary-log-requires add-t guess-requires sub-ten-log ten-log-requires tested-below-requires guess-requires-2 ten-log-requires-2 tested-above-requires returns returns-2)
+log-above-zero-spec = tie.close (tie.spec unpack-requires mul-t binary-log-requires add-t guess-requires sub-ten-log ten-log-requires tested-below-requires guess-requires-2 ten-log-requires-2 tested-above-requires returns returns-2)

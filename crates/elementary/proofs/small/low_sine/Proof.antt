@@ -1,4 +1,4 @@
--- `sines::low_sine` meets its contract. Assumes nothing.
+-- `small::low_sine` meets its contract. Assumes nothing.
 use Prim.Native.Nat.{ℕ, _+_, _-_, _*_, _^_, _/_, _≤_, _<_}
 use native.Mathlib.Nat.{le-trans, le-of-lt, mul-le-mul, le-of-mul-le-mul-right}
 use native.Mathlib.Omega.{arith}
@@ -7,8 +7,8 @@ use lib.Ieee.Positive.{num, den, den-pos}
 use borrow.Author.Needs.{needs}
 use Rattle.elementary.specs.Inside.Fixed.{IsHigh}
 use Rattle.elementary.proofs.sines.Low.{sine-low, narrower}
-use Rattle.elementary.proofs.sines.low_sine.Statement.{statement}
-use Rattle.elementary.proofs.sines.low_sine.Tie as tie
+use Rattle.elementary.proofs.small.low_sine.Statement.{statement}
+use Rattle.elementary.proofs.small.low_sine.Tie as tie
 
 under : (m : ℕ) → m ≤ 2 ^ 63 - 2 ^ 10 → m < 2 ^ 63
 under m h = omega arith

@@ -1,4 +1,4 @@
--- `sines::placed` meets its contract. Assumes nothing.
+-- `small::placed` meets its contract. Assumes nothing.
 use mathlib.Core.Path.{_≡_, sym, ap, subst, _∙_}
 use mathlib.Core.Bool.{false}
 use Prim.Native.Nat.{ℕ, suc, _+_, _*_, _^_, _%_, _≤_}
@@ -11,8 +11,8 @@ use lib.Ieee.{binary64, ofInt, inFloat}
 use lib.Ieee.Exact.{HasValue}
 use borrow.Author.Needs.{needs}
 use Rattle.elementary.proofs.fixed.Exactly.{whole, over-power}
-use Rattle.elementary.proofs.sines.placed.Statement.{statement}
-use Rattle.elementary.proofs.sines.placed.Tie as tie
+use Rattle.elementary.proofs.small.placed.Statement.{statement}
+use Rattle.elementary.proofs.small.placed.Tie as tie
 
 few : (k : ℕ) → k ≤ 26 → k + 1 ≤ 27
 few k h = omega arith

@@ -1,11 +1,11 @@
--- `sines::own_square` meets its contract. Assumes nothing.
+-- `small::own_square` meets its contract. Assumes nothing.
 use Prim.Native.Nat.{ℕ, _*_, _/_, _^_, _≤_, _<_}
 use native.Mathlib.Nat.{div-le-self}
 use native.Mathlib.Omega.{arith}
 use borrow.Author.Needs.{needs}
-use Rattle.elementary.proofs.sines.Alternate.{is-square}
-use Rattle.elementary.proofs.sines.own_square.Statement.{statement}
-use Rattle.elementary.proofs.sines.own_square.Tie as tie
+use Rattle.elementary.proofs.small.Alternate.{is-square}
+use Rattle.elementary.proofs.small.own_square.Statement.{statement}
+use Rattle.elementary.proofs.small.own_square.Tie as tie
 
 shr-y : tie.Need-shr-y
 shr-y c = search needs

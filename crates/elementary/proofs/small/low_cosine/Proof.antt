@@ -1,11 +1,11 @@
--- `sines::low_cosine` meets its contract. Assumes nothing.
+-- `small::low_cosine` meets its contract. Assumes nothing.
 use Prim.Native.Nat.{ℕ, _+_, _-_, _^_, _/_, _≤_, _<_}
 use native.Mathlib.Omega.{arith}
 use lib.Ieee.Positive.{num, den, den-pos}
 use borrow.Author.Needs.{needs}
 use Rattle.elementary.proofs.sines.Low.{cosine-low}
-use Rattle.elementary.proofs.sines.low_cosine.Statement.{statement}
-use Rattle.elementary.proofs.sines.low_cosine.Tie as tie
+use Rattle.elementary.proofs.small.low_cosine.Statement.{statement}
+use Rattle.elementary.proofs.small.low_cosine.Tie as tie
 
 under : (m : ℕ) → m ≤ 2 ^ 63 - 2 ^ 10 → m < 2 ^ 63
 under m h = omega arith

@@ -7,7 +7,7 @@ use lib.Pow.{pow-pos}
 use Rattle.elementary.specs.Series.{Quarter, east, north, west, south, start, back, at, sum, part}
 use Rattle.elementary.specs.Inside.Fixed.{Apart, IsHigh}
 use Rattle.elementary.specs.Inside.Circle.{Law}
-use Rattle.elementary.specs.Inside.Small.{IsSquare, IsDown, Alternating}
+use Rattle.elementary.specs.Inside.Small.{IsSquare, IsHorner, Alternating}
 use Rattle.elementary.proofs.circle.Terms.{halves, gain}
 use Rattle.elementary.proofs.circle.Sums.{sum-first, sum-upto, sum-cong}
 
@@ -147,7 +147,7 @@ module _ (G A B U Z q g h n : ℕ) (g0 : 0 < G) (b0 : 0 < B) (n2 : 2 ≤ n) (law
 square-le : (a b : ℕ) → a ≤ b → a * a ≤ b * b
 square-le a b h = mul-le-mul h h
 
-pub step : (q k e f e' z g r n : ℕ) → Alternating q (suc (suc k)) e' z g → IsDown g q n r → n ≡ suc k * suc (suc k) → 2 ≤ n → e ≡ f + 6 → e' ≤ n * f → Alternating q k e (suc (suc z)) r
+pub step : (q k e f e' z g r n : ℕ) → Alternating q (suc (suc k)) e' z g → IsHorner g q n r → n ≡ suc k * suc (suc k) → 2 ≤ n → e ≡ f + 6 → e' ≤ n * f → Alternating q k e (suc (suc z)) r
 step q k e f e' z g r n t i is two six room = record {
   most = under r (i .taken) (i .whole);
   near = λ u a b M d b0 l law sq len fit.
@@ -236,13 +236,13 @@ last q k k0 = record {
     go v E W a b c = rw (zero-mul v) record { under = omega (arith, a, b, c); over = omega (arith, a, b, c) }
 
 -- ---- the code's step, and the square of the argument
-pub is-down : (g q n h : ℕ) → 2 ≤ n → g ≤ 2 ^ 63 → q ≤ 2 ^ 63 → IsHigh g q h → (h / n ≤ 2 ^ 63) × IsDown g q n (2 ^ 63 - h / n)
-is-down g q n h two small small' i = go (h / n) (div-mul-le-self h n) (lt-div-mul-add (positive n two))
+pub is-horner : (g q n h : ℕ) → 2 ≤ n → g ≤ 2 ^ 63 → q ≤ 2 ^ 63 → IsHigh g q h → (h / n ≤ 2 ^ 63) × IsHorner g q n (2 ^ 63 - h / n)
+is-horner g q n h two small small' i = go (h / n) (div-mul-le-self h n) (lt-div-mul-add (positive n two))
   where
     positive : (n : ℕ) → 2 ≤ n → 0 < n
     positive n l = omega arith
 
-    go : (t : ℕ) → t * n ≤ h → h < t * n + n → (t ≤ 2 ^ 63) × IsDown g q n (2 ^ 63 - t)
+    go : (t : ℕ) → t * n ≤ h → h < t * n + n → (t ≤ 2 ^ 63) × IsHorner g q n (2 ^ 63 - t)
     go t l u = (
       most,
       record {

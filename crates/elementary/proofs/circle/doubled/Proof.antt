@@ -1,10 +1,10 @@
--- `circle::turn` meets its contract. Assumes nothing.
+-- `circle::doubled` meets its contract. Assumes nothing.
 use Prim.Native.Nat.{_*_, _^_, _≤_}
 use native.Mathlib.Nat.{le-trans, le-of-eq, le-of-lt, add-comm}
 use native.Mathlib.Omega.{arith}
-use Rattle.elementary.proofs.circle.Squares.{size-small, product-small, turn-less, turn-more}
-use Rattle.elementary.proofs.circle.turn.Statement.{statement}
-use Rattle.elementary.proofs.circle.turn.Tie as tie
+use Rattle.elementary.proofs.circle.Squares.{size-small, product-small, doubled-less, doubled-more}
+use Rattle.elementary.proofs.circle.doubled.Statement.{statement}
+use Rattle.elementary.proofs.circle.doubled.Tie as tie
 
 first-small : (c : tie.Start) → c .args .c ≤ 5 * 2 ^ 61
 first-small c = size-small (c .args .c) (c .args .s * c .args .s) (c .pre .0)
@@ -42,12 +42,12 @@ add-t16 c = omega (arith, c .before .before .before .before .pre .1)
 returns : tie.Need-returns
 returns c =
     let a = c .before .before .before .before .args in
-    turn-less (a .c) (a .s) (c .before .before .before .high .result) (c .before .before .high2 .result) (c .before .high3 .result) (c .before .before .before .high .ensures) (c .before .before .high2 .ensures) (c .before .high3 .ensures) _ _ (c .if1 .taken)
+    doubled-less (a .c) (a .s) (c .before .before .before .high .result) (c .before .before .high2 .result) (c .before .high3 .result) (c .before .before .before .high .ensures) (c .before .before .high2 .ensures) (c .before .high3 .ensures) _ _ (c .if1 .taken)
 
 returns-2 : tie.Need-returns-2
 returns-2 c =
     let a = c .before .before .before .before .args in
-    turn-more (a .c) (a .s) (c .before .before .before .high .result) (c .before .before .high2 .result) (c .before .high3 .result) (c .before .before .before .high .ensures) (c .before .before .high2 .ensures) (c .before .high3 .ensures) _ _ (c .if1 .left)
+    doubled-more (a .c) (a .s) (c .before .before .before .high .result) (c .before .before .high2 .result) (c .before .high3 .result) (c .before .before .before .high .ensures) (c .before .before .high2 .ensures) (c .before .high3 .ensures) _ _ (c .if1 .left)
 
-pub turn-spec : {M : Type 1} → statement M
-turn-spec = tie.close (tie.spec high-requires high-requires-2 high-requires-3 sub-t10 mul-t11 add-t12 mul-t15 add-t16 returns returns-2)
+pub doubled-spec : {M : Type 1} → statement M
+doubled-spec = tie.close (tie.spec high-requires high-requires-2 high-requires-3 sub-t10 mul-t11 add-t12 mul-t15 add-t16 returns returns-2)

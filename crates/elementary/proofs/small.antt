@@ -1,0 +1,2 @@
+-- Lemmas for sine and cosine below 1.
+pub mod Alternate

@@ -1,0 +1,115 @@
+// The sine and the cosine of a double below 1, each by one series in whole numbers.
+ghost use mathlib.Core.Bool.{false};
+ghost use Prim.Native.Nat.{_+_, _*_, _^_, _≤_, _<_};
+ghost use lib.Dec.{T};
+ghost use lib.IntN.{pos};
+ghost use lib.Ieee as Ieee;
+ghost use lib.Ieee.{fin, binary64};
+ghost use lib.Ieee.Exact.{HasValue};
+ghost use lib.Ieee.Positive.{num, den};
+ghost use Rattle.elementary.specs.Sine.{IsCosine, IsSine};
+ghost use Rattle.elementary.specs.Inside.Small.{IsSplit, IsSquare, IsHorner, Alternating};
+
+// The number m / 2^(63 + k).
+struct Fraction {
+    m: u64,
+    k: u64,
+}
+
+// x, from 2^-27 to 1, with an m of 63 binary digits.
+fn split(x: f64) -> Fraction
+    requires { ⌜ T (Ieee.le (Ieee.ofBits binary64 0x3e40_0000_0000_0000) x) ⌝ ∗ ⌜ T (Ieee.lt x (fin false 1 (pos 0))) ⌝ }
+    ensures { λ r. ⌜ IsSplit (num x) (den x) (r .m) (r .k) ⌝ }
+{
+    let s = super::fixed::unpack(x);
+    let m = s.m;
+    let e = s.e;
+    Fraction {
+        m: m << 10,
+        k: 2095 - e,
+    }
+}
+
+// The square of m / 2^(63 + k), in units of 2^-63.
+fn own_square(m: u64, k: u64) -> u64
+    requires { ⌜ (m < 2 ^ 63) × (k ≤ 26) ⌝ }
+    ensures { λ r. ⌜ IsSquare m k r ⌝ }
+{
+    let y = m >> k;
+    super::fixed::high(y, y)
+}
+
+// A step of Horner's rule: 1 - g * q / n, in units of 2^-63.
+fn horner(g: u64, q: u64, n: u64) -> u64
+    requires { ⌜ (g ≤ 2 ^ 63) × (q ≤ 2 ^ 63) × (2 ≤ n) ⌝ }
+    ensures { λ r. ⌜ IsHorner g q n r ⌝ }
+{
+    0x8000_0000_0000_0000 - super::fixed::high(g, q) / n
+}
+
+// The cosine of the root of q, in units of 2^-63, by its series to the 20th power.
+fn even_sum(q: u64) -> u64
+    requires { ⌜ q ≤ 2 ^ 63 ⌝ }
+    ensures { λ r. ⌜ Alternating q 0 20 20 r ⌝ }
+{
+    let g18 = horner(0x8000_0000_0000_0000, q, 380);
+    let g16 = horner(g18, q, 306);
+    let g14 = horner(g16, q, 240);
+    let g12 = horner(g14, q, 182);
+    let g10 = horner(g12, q, 132);
+    let g8 = horner(g10, q, 90);
+    let g6 = horner(g8, q, 56);
+    let g4 = horner(g6, q, 30);
+    let g2 = horner(g4, q, 12);
+    horner(g2, q, 2)
+}
+
+// The sine of the root of q over that root, in units of 2^-63, by its series to the 21st power.
+fn odd_sum(q: u64) -> u64
+    requires { ⌜ q ≤ 2 ^ 63 ⌝ }
+    ensures { λ r. ⌜ Alternating q 1 20 20 r ⌝ }
+{
+    let g19 = horner(0x8000_0000_0000_0000, q, 420);
+    let g17 = horner(g19, q, 342);
+    let g15 = horner(g17, q, 272);
+    let g13 = horner(g15, q, 210);
+    let g11 = horner(g13, q, 156);
+    let g9 = horner(g11, q, 110);
+    let g7 = horner(g9, q, 72);
+    let g5 = horner(g7, q, 42);
+    let g3 = horner(g5, q, 20);
+    horner(g3, q, 6)
+}
+
+// m / 2^(53 + k) as a double.
+fn placed(m: u64, k: u64) -> f64
+    requires { ⌜ (m < 2 ^ 53) × (k ≤ 26) ⌝ }
+    ensures { λ r. ⌜ HasValue r false m (2 ^ 52 * 2 ^ (k + 1)) ⌝ }
+{
+    let one: u64 = 1;
+    super::fixed::parts(m) / ((one << (k + 1)) as f64)
+}
+
+// The sine of x, from 2^-27 to 1.
+pub fn low_sine(x: f64) -> f64
+    requires { ⌜ T (Ieee.le (Ieee.ofBits binary64 0x3e40_0000_0000_0000) x) ⌝ ∗ ⌜ T (Ieee.lt x (fin false 1 (pos 0))) ⌝ }
+    ensures { λ r. ⌜ IsSine x r ⌝ }
+{
+    let p = split(x);
+    let m = p.m;
+    let k = p.k;
+    let g = odd_sum(own_square(m, k));
+    placed((super::fixed::high(m, g) + 512) >> 10, k)
+}
+
+// The cosine of x, from 2^-27 to 1.
+pub fn low_cosine(x: f64) -> f64
+    requires { ⌜ T (Ieee.le (Ieee.ofBits binary64 0x3e40_0000_0000_0000) x) ⌝ ∗ ⌜ T (Ieee.lt x (fin false 1 (pos 0))) ⌝ }
+    ensures { λ r. ⌜ IsCosine x r ⌝ }
+{
+    let p = split(x);
+    let m = p.m;
+    let k = p.k;
+    let g = even_sum(own_square(m, k));
+    super::fixed::parts((g + 1024) >> 11)
+}
