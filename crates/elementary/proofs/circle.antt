@@ -8,5 +8,6 @@ pub mod Onward
 pub mod Halves
 pub mod Squares
 pub mod Steady
-pub mod Beginning
+pub mod Alternate
+pub mod Opening
 pub mod Follows

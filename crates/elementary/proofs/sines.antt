@@ -1,4 +1,3 @@
 -- Lemmas for the sine and the cosine of a double.
 pub mod Doubles
 pub mod Range
-pub mod Low

@@ -1,2 +1,2 @@
 -- Lemmas for sine and cosine below 1.
-pub mod Alternate
+pub mod Low

@@ -1,15 +1,8 @@
-// The cosine and the sine together, in units of 2^-63: twelve terms of their series at a fraction of
-// the angle, which is then doubled. c² - s² and 2cs need no π and no reduction.
+// The cosine and the sine together, in units of 2^-63: by their series at a fraction of the angle,
+// which is then doubled. c² - s² and 2cs need no π and no reduction.
 ghost use Prim.Native.Nat.{_+_, _*_, _^_, _≤_, _<_};
-ghost use Rattle.elementary.specs.Inside.Circle.{IsNext, IsDoubled, IsFirst, IsCircle};
-
-// The n-th term of the series from t, the one before it.
-fn next(t: u64, y: u64, n: u64) -> u64
-    requires { ⌜ (t ≤ 2 ^ 63) × (y ≤ 200 * 2 ^ 52) × (0 < n) ⌝ }
-    ensures { λ r. ⌜ IsNext t y n r ⌝ }
-{
-    super::fixed::high(t, y) / n
-}
+ghost use Rattle.elementary.specs.Inside.Horner.{Alternating};
+ghost use Rattle.elementary.specs.Inside.Circle.{IsCosineSum, IsDoubled, IsFirst, IsCircle};
 
 // A cosine and a sine by their sizes, each with its sign: 1 where it is negative.
 pub struct Pair {
@@ -44,6 +37,31 @@ fn doubled(c: u64, cn: u64, s: u64, sn: u64) -> Pair
     }
 }
 
+// The cosine of the root of q, up to 1/10, by its series to the 12th power.
+fn cosine_sum(q: u64) -> u64
+    requires { ⌜ q ≤ 2 ^ 63 ⌝ }
+    ensures { λ r. ⌜ IsCosineSum q r ⌝ }
+{
+    let g10 = super::fixed::horner(0x8000_0000_0000_0000, q, 132);
+    let g8 = super::fixed::horner(g10, q, 90);
+    let g6 = super::fixed::horner(g8, q, 56);
+    let g4 = super::fixed::horner(g6, q, 30);
+    let g2 = super::fixed::horner(g4, q, 12);
+    super::fixed::horner(g2, q, 2)
+}
+
+// The sine of the root of q over that root, up to 1/10, by its series to the 11th power.
+fn sine_sum(q: u64) -> u64
+    requires { ⌜ q ≤ 2 ^ 63 ⌝ }
+    ensures { λ r. ⌜ Alternating 10 q 1 30 10 r ⌝ }
+{
+    let g9 = super::fixed::horner(0x8000_0000_0000_0000, q, 110);
+    let g7 = super::fixed::horner(g9, q, 72);
+    let g5 = super::fixed::horner(g7, q, 42);
+    let g3 = super::fixed::horner(g5, q, 20);
+    super::fixed::horner(g3, q, 6)
+}
+
 // A cosine and a sine that are not negative.
 struct Initial {
     c: u64,
@@ -55,20 +73,12 @@ fn first(y: u64) -> Initial
     requires { ⌜ y ≤ 200 * 2 ^ 52 ⌝ }
     ensures { λ r. ⌜ IsFirst y (r .c) (r .s) ⌝ }
 {
-    let t2 = next(y, y, 2);
-    let t3 = next(t2, y, 3);
-    let t4 = next(t3, y, 4);
-    let t5 = next(t4, y, 5);
-    let t6 = next(t5, y, 6);
-    let t7 = next(t6, y, 7);
-    let t8 = next(t7, y, 8);
-    let t9 = next(t8, y, 9);
-    let t10 = next(t9, y, 10);
-    let t11 = next(t10, y, 11);
-    let t12 = next(t11, y, 12);
+    let q = super::fixed::high(y, y);
+    let c = cosine_sum(q);
+    let g = sine_sum(q);
     Initial {
-        c: 0x8000_0000_0000_0000 + t4 + t8 + t12 - (t2 + t6 + t10),
-        s: y + t5 + t9 - (t3 + t7 + t11),
+        c: c,
+        s: super::fixed::high(y, g),
     }
 }
 

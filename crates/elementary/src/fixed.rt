@@ -8,6 +8,7 @@ ghost use lib.Ieee.{le};
 ghost use lib.Ieee.Exact.{HasValue};
 ghost use lib.Ieee.Positive.{positive};
 ghost use Rattle.elementary.specs.Inside.Fixed.{IsUnpacked, IsHigh};
+ghost use Rattle.elementary.specs.Inside.Horner.{IsHorner};
 
 // A finite x above zero as m * 2^(e - 2148), with an m of 53 binary digits.
 pub fn unpack(x: f64) -> arith::Scaled
@@ -27,6 +28,14 @@ pub fn high(a: u64, b: u64) -> u64
     let b1 = b >> 32;
     let b0 = b % 0x1_0000_0000;
     2 * (a1 * b1) + ((a1 * b0) >> 31) + ((a0 * b1) >> 31)
+}
+
+// A step of Horner's rule: 1 - g * q / n, in units of 2^-63.
+pub fn horner(g: u64, q: u64, n: u64) -> u64
+    requires { ⌜ (g ≤ 2 ^ 63) × (q ≤ 2 ^ 63) × (2 ≤ n) ⌝ }
+    ensures { λ r. ⌜ IsHorner g q n r ⌝ }
+{
+    0x8000_0000_0000_0000 - high(g, q) / n
 }
 
 // n / 2^52 as a double.

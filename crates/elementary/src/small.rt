@@ -8,7 +8,8 @@ ghost use lib.Ieee.{fin, binary64};
 ghost use lib.Ieee.Exact.{HasValue};
 ghost use lib.Ieee.Positive.{num, den};
 ghost use Rattle.elementary.specs.Sine.{IsCosine, IsSine};
-ghost use Rattle.elementary.specs.Inside.Small.{IsSplit, IsSquare, IsHorner, Alternating};
+ghost use Rattle.elementary.specs.Inside.Horner.{Alternating};
+ghost use Rattle.elementary.specs.Inside.Small.{IsSplit, IsSquare};
 
 // The number m / 2^(63 + k).
 struct Fraction {
@@ -39,46 +40,38 @@ fn own_square(m: u64, k: u64) -> u64
     super::fixed::high(y, y)
 }
 
-// A step of Horner's rule: 1 - g * q / n, in units of 2^-63.
-fn horner(g: u64, q: u64, n: u64) -> u64
-    requires { ⌜ (g ≤ 2 ^ 63) × (q ≤ 2 ^ 63) × (2 ≤ n) ⌝ }
-    ensures { λ r. ⌜ IsHorner g q n r ⌝ }
-{
-    0x8000_0000_0000_0000 - super::fixed::high(g, q) / n
-}
-
 // The cosine of the root of q, in units of 2^-63, by its series to the 20th power.
 fn even_sum(q: u64) -> u64
     requires { ⌜ q ≤ 2 ^ 63 ⌝ }
-    ensures { λ r. ⌜ Alternating q 0 20 20 r ⌝ }
+    ensures { λ r. ⌜ Alternating 1 q 0 20 20 r ⌝ }
 {
-    let g18 = horner(0x8000_0000_0000_0000, q, 380);
-    let g16 = horner(g18, q, 306);
-    let g14 = horner(g16, q, 240);
-    let g12 = horner(g14, q, 182);
-    let g10 = horner(g12, q, 132);
-    let g8 = horner(g10, q, 90);
-    let g6 = horner(g8, q, 56);
-    let g4 = horner(g6, q, 30);
-    let g2 = horner(g4, q, 12);
-    horner(g2, q, 2)
+    let g18 = super::fixed::horner(0x8000_0000_0000_0000, q, 380);
+    let g16 = super::fixed::horner(g18, q, 306);
+    let g14 = super::fixed::horner(g16, q, 240);
+    let g12 = super::fixed::horner(g14, q, 182);
+    let g10 = super::fixed::horner(g12, q, 132);
+    let g8 = super::fixed::horner(g10, q, 90);
+    let g6 = super::fixed::horner(g8, q, 56);
+    let g4 = super::fixed::horner(g6, q, 30);
+    let g2 = super::fixed::horner(g4, q, 12);
+    super::fixed::horner(g2, q, 2)
 }
 
 // The sine of the root of q over that root, in units of 2^-63, by its series to the 21st power.
 fn odd_sum(q: u64) -> u64
     requires { ⌜ q ≤ 2 ^ 63 ⌝ }
-    ensures { λ r. ⌜ Alternating q 1 20 20 r ⌝ }
+    ensures { λ r. ⌜ Alternating 1 q 1 20 20 r ⌝ }
 {
-    let g19 = horner(0x8000_0000_0000_0000, q, 420);
-    let g17 = horner(g19, q, 342);
-    let g15 = horner(g17, q, 272);
-    let g13 = horner(g15, q, 210);
-    let g11 = horner(g13, q, 156);
-    let g9 = horner(g11, q, 110);
-    let g7 = horner(g9, q, 72);
-    let g5 = horner(g7, q, 42);
-    let g3 = horner(g5, q, 20);
-    horner(g3, q, 6)
+    let g19 = super::fixed::horner(0x8000_0000_0000_0000, q, 420);
+    let g17 = super::fixed::horner(g19, q, 342);
+    let g15 = super::fixed::horner(g17, q, 272);
+    let g13 = super::fixed::horner(g15, q, 210);
+    let g11 = super::fixed::horner(g13, q, 156);
+    let g9 = super::fixed::horner(g11, q, 110);
+    let g7 = super::fixed::horner(g9, q, 72);
+    let g5 = super::fixed::horner(g7, q, 42);
+    let g3 = super::fixed::horner(g5, q, 20);
+    super::fixed::horner(g3, q, 6)
 }
 
 // m / 2^(53 + k) as a double.

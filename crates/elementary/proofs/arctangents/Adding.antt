@@ -6,7 +6,7 @@ use native.Mathlib.Nat.{le-trans, le-of-eq, mul-add, add-mul, mul-assoc, mul-lef
 use native.Mathlib.Omega.{arith}
 use Rattle.elementary.specs.Series.{Quarter, at, sum, part}
 use Rattle.elementary.specs.Inside.Circle.{mix}
-use Rattle.elementary.specs.Inside.Circle.{Law}
+use Rattle.elementary.specs.Inside.Law.{Law}
 use Rattle.elementary.proofs.circle.Sums.{sum-cong, sum-add, sum-times, sum-first, sum-last, triangle}
 use Rattle.elementary.proofs.circle.Doubling.{at-add, mix-sum-left, mix-sum-right, mix-times, triangle-under, triangle-over}
 

@@ -8,7 +8,8 @@ use Rattle.elementary.specs.Series.{Quarter, east, north, west, south, a
 use Rattle.elementary.specs.Inside.Circle.{mix}
 use Rattle.elementary.specs.Series.{falling, term}
 use Rattle.elementary.specs.Inside.Fixed.{Apart}
-use Rattle.elementary.specs.Inside.Circle.{Law, State}
+use Rattle.elementary.specs.Inside.Law.{Law}
+use Rattle.elementary.specs.Inside.Circle.{State}
 use Rattle.elementary.proofs.circle.Signed.{apart-trans, apart-swap, apart-wider, apart-times, apart-cancel}
 use Rattle.elementary.proofs.circle.Level.{product, gather, finish}
 use Rattle.elementary.proofs.circle.Terms.{term-law, proportion}

@@ -9,7 +9,7 @@ use Rattle.elementary.specs.Series.{term}
 use Rattle.elementary.specs.Inside.Fixed.{Apart}
 use Rattle.elementary.specs.Inside.Circle.{State, IsCircle, error, plus, less}
 use Rattle.elementary.specs.Inside.Arctangent.{IsFurther}
-use Rattle.elementary.proofs.sines.Low.{step-state}
+use Rattle.elementary.proofs.small.Low.{step-state}
 use Rattle.elementary.proofs.arctangents.Sides.{Stated, state-at}
 use Rattle.elementary.proofs.arctangents.Moved.{rotated}
 

@@ -16,8 +16,8 @@ use Rattle.elementary.specs.Inside.Arctangent.{Good}
 use Rattle.elementary.proofs.circle.Sums.{sum-upto}
 use Rattle.elementary.proofs.circle.Terms.{term-law, ratio, halves, gain}
 use Rattle.elementary.proofs.circle.Follows.{term-pos}
-use Rattle.elementary.proofs.small.Alternate.{two-law, east-further, west-further, west-most}
-use Rattle.elementary.proofs.sines.Low.{from-zero}
+use Rattle.elementary.proofs.circle.Alternate.{two-law, east-further, west-further, west-most}
+use Rattle.elementary.proofs.circle.Alternate.{from-zero}
 use Rattle.elementary.proofs.arctangents.Sides.{state-at, error-5}
 
 -- ---- the cosine up to 1

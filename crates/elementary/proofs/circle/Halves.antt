@@ -1,10 +1,9 @@
 -- The upper half of a product, and a term from it. Assumes nothing.
-use mathlib.Core.Path.{_≡_, sym, ap, _∙_}
+use mathlib.Core.Path.{_≡_}
 use Prim.Native.Nat.{ℕ, _+_, _*_, _/_, _%_, _^_, _≤_, _<_}
-use native.Mathlib.Nat.{le-trans, le-of-eq, le-of-lt, mul-add, add-mul, mul-comm, mul-assoc, mul-left-comm, mul-le-mul, mul-le-mul-left, mul-le-mul-right, le-of-mul-le-mul-right, div-mul-le-self, lt-div-mul-add}
+use native.Mathlib.Nat.{mul-add, add-mul, mul-comm, mul-assoc, mul-left-comm, mul-le-mul}
 use native.Mathlib.Omega.{arith}
 use Rattle.elementary.specs.Inside.Fixed.{IsHigh}
-use Rattle.elementary.specs.Inside.Circle.{IsNext}
 
 abbrev pub upper : ℕ → ℕ → ℕ
 upper a b = 2 * (a / 2 ^ 32 * (b / 2 ^ 32)) + a / 2 ^ 32 * (b % 2 ^ 32) / 2 ^ 31 + a % 2 ^ 32 * (b / 2 ^ 32) / 2 ^ 31
@@ -59,26 +58,3 @@ small a b h k =
     let r : b / 2 ^ 32 ≤ 5 * 2 ^ 29 = omega arith in
     let s : b % 2 ^ 32 ≤ 2 ^ 32 = omega arith in
     record { top = mul-le-mul p r; one = mul-le-mul p s; other = mul-le-mul q r }
-
--- a term from the one before, h being t * y / 2 ^ 63 and r the whole part of h / n
-pub is-next : (t y n h : ℕ) → 0 < n → y * 10 ≤ 2 ^ 63 → IsHigh t y h → IsNext t y n (h / n)
-is-next t y n h p small i = go (h / n) (div-mul-le-self h n) (lt-div-mul-add p)
-  where
-    go : (r : ℕ) → r * n ≤ h → h < r * n + n → IsNext t y n r
-    go r l u = record {
-      low = le-trans (mul-le-mul-right (2 ^ 63) l) (i .low);
-      high = le-trans (le-of-lt (i .high)) (mul-le-mul-right (2 ^ 63) more);
-      small = le-of-mul-le-mul-right {k = 2 ^ 63} (le-trans tenth (le-trans (le-of-eq (turn t y)) (mul-le-mul-left t small))) positive;
-    }
-      where
-        more : h + 4 ≤ r * n + n + 3
-        more = omega arith
-
-        turn : (a b : ℕ) → a * b * 10 ≡ a * (b * 10)
-        turn a b = mul-assoc a b 10
-
-        tenth : r * n * 10 * 2 ^ 63 ≤ t * y * 10
-        tenth = le-trans (le-of-eq (mul-assoc (r * n) 10 (2 ^ 63) ∙ ap (λ (x : ℕ). r * n * x) (mul-comm 10 (2 ^ 63)) ∙ sym (mul-assoc (r * n) (2 ^ 63) 10))) (mul-le-mul-right 10 (le-trans (mul-le-mul-right (2 ^ 63) l) (i .low)))
-
-        positive : 0 < 2 ^ 63
-        positive = omega arith

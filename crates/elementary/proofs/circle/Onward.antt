@@ -4,7 +4,8 @@ use Prim.Native.Nat.{ℕ, zero, suc, _+_, _-_, _*_, _^_, _≤_, _<_}
 use native.Mathlib.Nat.{le-trans, le-of-eq, le-refl, mul-add, mul-comm, mul-assoc, mul-le-mul-left, mul-le-mul-right, le-of-mul-le-mul-left, mul-pos, pow-suc, pow-zero, one-mul, mul-one, zero-lt-suc, one-le-pow}
 use native.Mathlib.Omega.{arith}
 use Rattle.elementary.specs.Inside.Fixed.{Apart}
-use Rattle.elementary.specs.Inside.Circle.{Law, State}
+use Rattle.elementary.specs.Inside.Law.{Law}
+use Rattle.elementary.specs.Inside.Circle.{State}
 use lib.Dec.{leb→le}
 use lib.Pow.{pow-pos}
 use Rattle.elementary.specs.Series.{Quarter, east, north, west, south, part}

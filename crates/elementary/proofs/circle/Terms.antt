@@ -5,7 +5,7 @@ use native.Mathlib.Nat.{le-trans, le-of-eq, mul-comm, mul-assoc, mul-left-comm, 
 use native.Mathlib.Omega.{arith}
 use Rattle.elementary.specs.Series.{Quarter, east, north, west, south, back, at, sum, part}
 use Rattle.elementary.specs.Series.{falling, term}
-use Rattle.elementary.specs.Inside.Circle.{Law}
+use Rattle.elementary.specs.Inside.Law.{Law}
 
 pub term-law : (a b M : ℕ) → Law (term a b M) a b M
 unfolding falling

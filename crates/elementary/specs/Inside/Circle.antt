@@ -3,16 +3,12 @@ use Prim.Native.Nat.{ℕ, zero, suc, _+_, _-_, _*_, _%_, _^_, _≤_, _<_}
 use mathlib.Core.Path.{_≡_}
 use Rattle.elementary.specs.Series.{Quarter, east, north, west, south, back, part, term}
 use Rattle.elementary.specs.Inside.Fixed.{Apart}
+use Rattle.elementary.specs.Inside.Law.{Law}
+use Rattle.elementary.specs.Inside.Horner.{Alternating}
 
 -- the product of two such sorted sums, sorted in its turn
 abbrev pub mix : (Quarter → ℕ) → (Quarter → ℕ) → Quarter → ℕ
 mix f g t = f east * g t + f north * g (back t) + f west * g (back (back t)) + f south * g (back (back (back t)))
-
--- r is t * y / (n * 2 ^ 63), or less by less than 5
-pub record IsNext (t y n r : ℕ) : Type 0 where
-  pub low : r * n * 2 ^ 63 ≤ t * y
-  pub high : t * y ≤ (r * n + n + 3) * 2 ^ 63
-  pub small : r * n * 10 ≤ t
 
 -- a number by its sign (0, or 1 where it is negative) and its size, as a difference of two
 abbrev pub plus : ℕ → ℕ → ℕ
@@ -31,14 +27,18 @@ pub record IsDoubled (cn c sn s cn' c' sn' s' : ℕ) : Type 0 where
   pub sine-high : 2 * (c * s) ≤ (s' + 8) * 2 ^ 63
   pub sine-sign : sn' ≡ (cn + sn) % 2
 
--- terms of which each is the one before times α / (β * n), up to the M-th: u n / u 0 is (α / β) ^ n / n!
-abbrev pub Law : (ℕ → ℕ) → ℕ → ℕ → ℕ → Type 0
-Law u α β M = (n : ℕ) → n < M → β * (suc n * u (suc n)) ≡ α * u n
-
 -- cp - cm and sp - sm, in units of 1 / G, are within ε of the partial sums up to N, in units of 1 / W
 pub record State (v : ℕ → ℕ) (W N G ε cp cm sp sm : ℕ) : Type 0 where
   pub cosine : Apart (cp * W) (cm * W) (part v N east * G) (part v N west * G) (ε * W)
   pub sine : Apart (sp * W) (sm * W) (part v N north * G) (part v N south * G) (ε * W)
+
+-- r is the cosine of the root of q, up to 1 / 10, and 1 less about half of q
+pub record IsCosineSum (q r : ℕ) : Type 0 where
+  pub sum : Alternating 10 q 0 7 12 r
+  pub taken : ℕ
+  pub whole : r + taken ≡ 2 ^ 63
+  pub most : taken * 2 ≤ q
+  pub least : 12 * (q * 2 ^ 63) ≤ 24 * (taken * 2 ^ 63) + q * q + 60 * 2 ^ 63
 
 -- c and s are the cosine and the sine of an argument whose whole part in units of 2 ^ -63 is y, for a y of at most 200 / 2048 of that, in the same units
 pub record IsFirst (y c s : ℕ) : Type 0 where

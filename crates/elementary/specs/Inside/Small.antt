@@ -1,11 +1,8 @@
--- Below 1. Definitions only.
-use Prim.Native.Nat.{ℕ, _+_, _-_, _*_, _^_, _≤_, _<_}
+-- A double below 1, and its square. Definitions only.
+use Prim.Native.Nat.{ℕ, _-_, _*_, _^_, _≤_, _<_}
 use mathlib.Core.Path.{_≡_}
-use Rattle.elementary.specs.Series.{east, west, part}
-use Rattle.elementary.specs.Inside.Fixed.{Apart}
-use Rattle.elementary.specs.Inside.Circle.{Law}
+use Rattle.elementary.specs.Inside.Horner.{IsRoot}
 
--- ---- below 1
 -- a / b, from 2 ^ -27 to 1, is m / 2 ^ (63 + k), and m has 63 digits, the last ten of them 0
 pub record IsSplit (a b m k : ℕ) : Type 0 where
   pub least : 2 ^ 62 ≤ m
@@ -14,25 +11,7 @@ pub record IsSplit (a b m k : ℕ) : Type 0 where
   pub below : a < b
   pub value : a * (2 ^ 63 * 2 ^ k) ≡ m * b
 
--- q is the square of a / b, or less by at most 6
-pub record IsRoot (a b q : ℕ) : Type 0 where
-  pub low : q * (b * b) ≤ a * a * 2 ^ 63
-  pub high : a * a * 2 ^ 63 ≤ (q + 6) * (b * b)
-
+-- q is the square of m / 2 ^ (63 + k)
 pub record IsSquare (m k q : ℕ) : Type 0 where
   pub most : q ≤ 2 ^ 63
   pub near : (a b : ℕ) → a * (2 ^ 63 * 2 ^ k) ≡ m * b → IsRoot a b q
-
--- r is 1 - g * q / n, or more by less than 6
-pub record IsHorner (g q n r : ℕ) : Type 0 where
-  pub taken : ℕ
-  pub whole : r + taken ≡ 2 ^ 63
-  pub low : taken * n * 2 ^ 63 ≤ g * q
-  pub high : g * q ≤ (taken * n + n + 3) * 2 ^ 63
-
--- r is, within e, the alternating sum of the terms from the k-th on, two places apart, by its first term: 1 - x ^ 2 / ((k + 1) * (k + 2)) + .., for a root x of q.
--- At k = 0 it is the cosine, and at k = 1 the sine over x. It holds of z terms or more.
-pub record Alternating (q k e z r : ℕ) : Type 0 where
-  pub most : r ≤ 2 ^ 63
-  pub near : (u : ℕ → ℕ) (a b M d : ℕ) → 0 < b → a ≤ b → Law u a b M → IsRoot a b q → z ≤ d → k + d ≤ M
-      → Apart (r * u k) (0 * u k) (part (λ (j : ℕ). u (k + j)) d east * 2 ^ 63) (part (λ (j : ℕ). u (k + j)) d west * 2 ^ 63) (e * u k)

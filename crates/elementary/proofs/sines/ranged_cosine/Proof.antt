@@ -7,7 +7,7 @@ use lib.Dec.{T}
 use lib.IntN.{pos, negsuc}
 use lib.Ieee.{ofBits}
 use lib.Ieee.Positive.{num, den, den-pos}
-use Rattle.elementary.proofs.sines.Low.{one-is}
+use Rattle.elementary.proofs.small.Low.{one-is}
 use Rattle.elementary.proofs.sines.Range.{tiny-of, from-of}
 use Rattle.elementary.proofs.sines.ranged_cosine.Statement.{statement}
 use Rattle.elementary.proofs.sines.ranged_cosine.Tie as tie

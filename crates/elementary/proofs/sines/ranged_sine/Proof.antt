@@ -7,7 +7,7 @@ use lib.Dec.{T}
 use lib.IntN.{pos, negsuc}
 use lib.Ieee.{ofBits}
 use lib.Ieee.Positive.{num, den, den-pos}
-use Rattle.elementary.proofs.sines.Low.{own-is, narrower}
+use Rattle.elementary.proofs.small.Low.{own-is, narrower}
 use Rattle.elementary.proofs.sines.Range.{tiny-of, whole-of, from-of}
 use Rattle.elementary.proofs.sines.ranged_sine.Statement.{statement}
 use Rattle.elementary.proofs.sines.ranged_sine.Tie as tie

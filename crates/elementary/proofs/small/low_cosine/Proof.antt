@@ -3,7 +3,7 @@ use Prim.Native.Nat.{ℕ, _+_, _-_, _^_, _/_, _≤_, _<_}
 use native.Mathlib.Omega.{arith}
 use lib.Ieee.Positive.{num, den, den-pos}
 use borrow.Author.Needs.{needs}
-use Rattle.elementary.proofs.sines.Low.{cosine-low}
+use Rattle.elementary.proofs.small.Low.{cosine-low}
 use Rattle.elementary.proofs.small.low_cosine.Statement.{statement}
 use Rattle.elementary.proofs.small.low_cosine.Tie as tie
 

@@ -6,7 +6,7 @@ use lib.Pow.{pow-pos}
 use lib.Ieee.Positive.{num, den, den-pos}
 use borrow.Author.Needs.{needs}
 use Rattle.elementary.specs.Inside.Fixed.{IsHigh}
-use Rattle.elementary.proofs.sines.Low.{sine-low, narrower}
+use Rattle.elementary.proofs.small.Low.{sine-low, narrower}
 use Rattle.elementary.proofs.small.low_sine.Statement.{statement}
 use Rattle.elementary.proofs.small.low_sine.Tie as tie
 

@@ -3,7 +3,7 @@ use Prim.Native.Nat.{ℕ, _*_, _/_, _^_, _≤_, _<_}
 use native.Mathlib.Nat.{div-le-self}
 use native.Mathlib.Omega.{arith}
 use borrow.Author.Needs.{needs}
-use Rattle.elementary.proofs.small.Alternate.{is-square}
+use Rattle.elementary.proofs.circle.Alternate.{is-square}
 use Rattle.elementary.proofs.small.own_square.Statement.{statement}
 use Rattle.elementary.proofs.small.own_square.Tie as tie
 

@@ -2,7 +2,7 @@
 use mathlib.Core.Path.{_≡_, refl, sym, ap, _∙_, subst}
 use mathlib.Core.Bool.{true, false, true≢false}
 use Prim.Native.Nat.{ℕ, suc, _+_, _-_, _*_, _/_, _^_, _≤_, _<_}
-use native.Mathlib.Nat.{le-trans, le-of-eq, le-of-lt, le-refl, add-le-add, mul-add, add-mul, mul-comm, mul-assoc, mul-left-comm, mul-right-comm, mul-le-mul, mul-le-mul-left, mul-le-mul-right, le-of-mul-le-mul-right, le-of-mul-le-mul-left, mul-pos, zero-lt-suc, one-mul, zero-mul, mul-zero, zero-add, lt-of-lt-of-le, mul-mul-mul-comm}
+use native.Mathlib.Nat.{mul-one, le-trans, le-of-eq, le-of-lt, le-refl, add-le-add, mul-add, add-mul, mul-comm, mul-assoc, mul-left-comm, mul-right-comm, mul-le-mul, mul-le-mul-left, mul-le-mul-right, le-of-mul-le-mul-right, le-of-mul-le-mul-left, mul-pos, zero-lt-suc, one-mul, zero-mul, mul-zero, lt-of-lt-of-le, mul-mul-mul-comm}
 use native.Mathlib.Omega.{arith}
 use lib.Pow.{pow-pos, pow-add}
 use lib.Dec.{leb→le}
@@ -10,17 +10,17 @@ use lib.IntN.{pos}
 use lib.Ieee.{Float, nan, inf, fin, up, down}
 use lib.Ieee.Exact.{HasValue}
 use lib.Ieee.Positive.{num, den, den-pos}
-use Rattle.elementary.specs.Series.{Quarter, east, north, west, south, start, back, at, part}
+use Rattle.elementary.specs.Series.{Quarter, east, north, west, south, start, back, part}
 use Rattle.elementary.specs.Series.{term}
 use Rattle.elementary.specs.Within.{Within}
 use Rattle.elementary.specs.Within as C
 use Rattle.elementary.specs.Arctangent.{NotBelow}
 use Rattle.elementary.specs.Inside.Fixed.{Apart, IsHigh}
 use Rattle.elementary.specs.Inside.Circle.{State, plus, less}
-use Rattle.elementary.specs.Inside.Small.{IsSplit, IsRoot, Alternating}
-use Rattle.elementary.proofs.circle.Sums.{sum-cong}
+use Rattle.elementary.specs.Inside.Horner.{IsRoot, Alternating}
+use Rattle.elementary.specs.Inside.Small.{IsSplit}
 use Rattle.elementary.proofs.circle.Terms.{term-law}
-use Rattle.elementary.proofs.small.Alternate.{two-law, peel, east-further, west-further, east-most, west-most}
+use Rattle.elementary.proofs.circle.Alternate.{two-law, east-further, west-further, east-most, west-most, from-zero, from-one}
 use Rattle.elementary.proofs.circle.Signed.{apart-times}
 use Rattle.elementary.proofs.sines.Doubles.{within-own}
 use Rattle.elementary.proofs.sines.Range.{Whole}
@@ -71,29 +71,13 @@ share-over A D P Q U i j pl le p q h = rw (p, q, zero-mul U) (le-trans (le-of-eq
         go x = omega arith
 
 -- ---- the sums without their first terms
-from-one : (u : ℕ → ℕ) (d : ℕ) (c : Quarter) → start c ≡ 0 → part u (suc d) c ≡ part (λ (j : ℕ). u (1 + j)) d (back c)
-from-one u d c z =
-    peel u d c
-    ∙ ap (λ (x : ℕ). x * u 0 + part (λ (j : ℕ). u (suc j)) d (back c)) z
-    ∙ none (u 0) (part (λ (j : ℕ). u (suc j)) d (back c))
-    ∙ sum-cong (λ (j : ℕ). at (back c) j * u (suc j)) (λ (j : ℕ). at (back c) j * u (1 + j)) d (λ j l. ap (λ (x : ℕ). at (back c) j * u x) (go j))
-  where
-    none : (a s : ℕ) → 0 * a + s ≡ s
-    none a s = omega arith
-
-    go : (j : ℕ) → suc j ≡ 1 + j
-    go j = omega arith
-
-pub from-zero : (u : ℕ → ℕ) (d : ℕ) (c : Quarter) → part u d c ≡ part (λ (j : ℕ). u (0 + j)) d c
-from-zero u d c = sum-cong (λ (j : ℕ). at c j * u j) (λ (j : ℕ). at c j * u (0 + j)) d (λ j l. ap (λ (x : ℕ). at c j * u x) (sym (zero-add j)))
-
 -- ---- the cosine
-pub cosine-low : (r : Float) (a b q g n : ℕ) → 0 < b → a < b → IsRoot a b q → Alternating q 0 20 20 g → 600 ≤ n → HasValue r false ((g + 1024) / 2 ^ 11) (2 ^ 52)
+pub cosine-low : (r : Float) (a b q g n : ℕ) → 0 < b → a < b → IsRoot a b q → Alternating 1 q 0 20 20 g → 600 ≤ n → HasValue r false ((g + 1024) / 2 ^ 11) (2 ^ 52)
     → Within r (part (term a b n) n east) (part (term a b n) n west) (term a b n 0) 1 1
 cosine-low r a b q g n p h sq t l v =
     within-own r (g + 1024) (part (term a b n) n east) (part (term a b n) n west) (term a b n 0) v
     (rw (from-zero (term a b n) n east, from-zero (term a b n) n west)
-    (go g (term a b n 0) (part (λ (j : ℕ). term a b n (0 + j)) n east * 2 ^ 63) (part (λ (j : ℕ). term a b n (0 + j)) n west * 2 ^ 63) (t .near (term a b n) a b n n p (le-of-lt h) (term-law a b n) sq (enough n l) (same n))))
+    (go g (term a b n 0) (part (λ (j : ℕ). term a b n (0 + j)) n east * 2 ^ 63) (part (λ (j : ℕ). term a b n (0 + j)) n west * 2 ^ 63) (t .near (term a b n) a b n n p (le-trans (le-of-eq (mul-one a)) (le-of-lt h)) (term-law a b n) sq (enough n l) (same n))))
   where
     enough : (n : ℕ) → 600 ≤ n → 20 ≤ n
     enough n l = omega arith
@@ -219,7 +203,7 @@ module _ (G H A D R a b m g p E W U v : ℕ) (h0 : 0 < H) (isG : G ≡ 2 ^ 63)
       finish x y z s h = omega (arith, h)
 
 -- ---- the same of doubles
-pub sine-low : (r : Float) (a b q m k g p n : ℕ) → 0 < b → IsSplit a b m k → IsRoot a b q → Alternating q 1 20 20 g → IsHigh m g p → 600 ≤ n → HasValue r false ((p + 512) / 2 ^ 10) (2 ^ 52 * 2 ^ (k + 1))
+pub sine-low : (r : Float) (a b q m k g p n : ℕ) → 0 < b → IsSplit a b m k → IsRoot a b q → Alternating 1 q 1 20 20 g → IsHigh m g p → 600 ≤ n → HasValue r false ((p + 512) / 2 ^ 10) (2 ^ 52 * 2 ^ (k + 1))
     → Within r (part (term a b n) n north) (part (term a b n) n south) (term a b n 0) a b
 sine-low nan a b q m k g p n b0 s sq t i l v = absurd v
 sine-low (inf s′) a b q m k g p n b0 s sq t i l v = absurd v
@@ -300,7 +284,7 @@ sine-low (fin false M e) a b q m k g p n b0 s sq t i l v = record {
     fits n l = omega arith
 
     near : Apart (g * u 1) (0 * u 1) (E * 2 ^ 63) (W * 2 ^ 63) (20 * u 1)
-    near = t .near u a b n d b0 (le-of-lt (s .below)) (term-law a b n) sq (enough n l) (fits n l)
+    near = t .near u a b n d b0 (le-trans (le-of-eq (mul-one a)) (le-of-lt (s .below))) (term-law a b n) sq (enough n l) (fits n l)
 
 -- ---- below 2 ^ -27: 1 and x
 module _ (a b n : ℕ) (b0 : 0 < b) (tiny : a * 2 ^ 27 ≤ b) (l : 600 ≤ n) where

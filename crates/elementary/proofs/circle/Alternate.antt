@@ -1,13 +1,14 @@
 -- The series of a square, from its end inwards: each step takes a multiple of what comes after from 1. Assumes nothing.
 use mathlib.Core.Path.{_≡_, sym, ap, _∙_, subst}
 use Prim.Native.Nat.{ℕ, suc, _+_, _-_, _*_, _/_, _^_, _≤_, _<_, zero-le}
-use native.Mathlib.Nat.{le-trans, le-of-eq, le-of-lt, le-refl, add-le-add, mul-add, add-mul, mul-comm, mul-assoc, mul-left-comm, mul-le-mul, mul-le-mul-left, mul-le-mul-right, le-of-mul-le-mul-right, le-of-mul-le-mul-left, mul-pos, zero-lt-suc, mul-one, zero-mul, mul-suc, suc-mul, mul-right-comm, div-mul-le-self, lt-div-mul-add, div-le-self, lt-of-le-of-lt}
+use native.Mathlib.Nat.{le-trans, le-of-eq, le-of-lt, le-refl, add-le-add, mul-add, add-mul, mul-comm, mul-assoc, mul-left-comm, mul-le-mul, mul-le-mul-left, mul-le-mul-right, le-of-mul-le-mul-right, le-of-mul-le-mul-left, mul-pos, zero-lt-suc, mul-one, zero-mul, mul-suc, suc-mul, mul-right-comm, div-mul-le-self, lt-div-mul-add, div-le-self, lt-of-le-of-lt, zero-add}
 use native.Mathlib.Omega.{arith}
 use lib.Pow.{pow-pos}
 use Rattle.elementary.specs.Series.{Quarter, east, north, west, south, start, back, at, sum, part}
 use Rattle.elementary.specs.Inside.Fixed.{Apart, IsHigh}
-use Rattle.elementary.specs.Inside.Circle.{Law}
-use Rattle.elementary.specs.Inside.Small.{IsSquare, IsHorner, Alternating}
+use Rattle.elementary.specs.Inside.Law.{Law}
+use Rattle.elementary.specs.Inside.Horner.{IsHorner, Alternating}
+use Rattle.elementary.specs.Inside.Small.{IsSquare}
 use Rattle.elementary.proofs.circle.Terms.{halves, gain}
 use Rattle.elementary.proofs.circle.Sums.{sum-first, sum-upto, sum-cong}
 
@@ -33,6 +34,22 @@ two-law u a b M k law h =
 pub peel : (v : ℕ → ℕ) (d : ℕ) (c : Quarter) → part v (suc d) c ≡ start c * v 0 + part (λ (j : ℕ). v (suc j)) d (back c)
 unfolding at
 peel v d c = sum-first (λ (j : ℕ). at c j * v j) d
+
+pub from-one : (u : ℕ → ℕ) (d : ℕ) (c : Quarter) → start c ≡ 0 → part u (suc d) c ≡ part (λ (j : ℕ). u (1 + j)) d (back c)
+from-one u d c z =
+    peel u d c
+    ∙ ap (λ (x : ℕ). x * u 0 + part (λ (j : ℕ). u (suc j)) d (back c)) z
+    ∙ none (u 0) (part (λ (j : ℕ). u (suc j)) d (back c))
+    ∙ sum-cong (λ (j : ℕ). at (back c) j * u (suc j)) (λ (j : ℕ). at (back c) j * u (1 + j)) d (λ j l. ap (λ (x : ℕ). at (back c) j * u x) (go j))
+  where
+    none : (a s : ℕ) → 0 * a + s ≡ s
+    none a s = omega arith
+
+    go : (j : ℕ) → suc j ≡ 1 + j
+    go j = omega arith
+
+pub from-zero : (u : ℕ → ℕ) (d : ℕ) (c : Quarter) → part u d c ≡ part (λ (j : ℕ). u (0 + j)) d c
+from-zero u d c = sum-cong (λ (j : ℕ). at c j * u j) (λ (j : ℕ). at c j * u (0 + j)) d (λ j l. ap (λ (x : ℕ). at c j * u x) (sym (zero-add j)))
 
 further : (u : ℕ → ℕ) (k d : ℕ) (c : Quarter) → part (λ (j : ℕ). u (k + suc (suc j))) d c ≡ part (λ (j : ℕ). u (suc (suc k) + j)) d c
 further u k d c = sum-cong (λ (j : ℕ). at c j * u (k + suc (suc j))) (λ (j : ℕ). at c j * u (suc (suc k) + j)) d (λ j l. ap (λ (x : ℕ). at c j * u x) (go k j))
@@ -65,7 +82,7 @@ west-further u k d =
     go a b c = omega arith
 
 -- ---- one step, on numbers: U and Z are two terms, A / B the square of the argument
-module _ (G A B U Z q g h n : ℕ) (g0 : 0 < G) (b0 : 0 < B) (n2 : 2 ≤ n) (law : B * (n * Z) ≡ A * U) where
+module _ (w G A B U Z q g h n : ℕ) (g0 : 0 < G) (b0 : 0 < B) (n2 : 2 ≤ n) (law : B * (n * Z) ≡ A * U) where
   n0 : 0 < n
   n0 = omega arith
 
@@ -123,10 +140,16 @@ module _ (G A B U Z q g h n : ℕ) (g0 : 0 < G) (b0 : 0 < B) (n2 : 2 ≤ n) (law
           (le-trans (add-le-add i (le-trans (mul-le-mul-right 6 small) (le-of-eq (mul-comm G 6))))
           (le-trans (le-of-eq (sym (add-mul (h * n + n + 3) 6 G))) (mul-le-mul-right G count)))
 
-  smaller : A ≤ B → n * Z ≤ U
-  smaller l = le-of-mul-le-mul-left {k = B} (le-trans (le-of-eq law) (mul-le-mul-right U l)) b0
+  smaller : A * (w * w) ≤ B → n * (w * w) * Z ≤ U
+  smaller l = le-of-mul-le-mul-left {k = B} (le-trans (le-of-eq (one (w * w) ∙ ap (λ (x : ℕ). w * w * x) law ∙ two (w * w))) (mul-le-mul-right U l)) b0
+    where
+      one : (v : ℕ) → B * (n * v * Z) ≡ v * (B * (n * Z))
+      one v = simp (mul-assoc, mul-comm, mul-left-comm)
 
-  stepped : (r e f e' E W : ℕ) → r + h ≡ G → q * B ≤ A * G → A * G ≤ (q + 6) * B → h * n * G ≤ g * q → g * q ≤ (h * n + n + 3) * G → g ≤ G → A ≤ B → e ≡ f + 6 → e' ≤ n * f
+      two : (v : ℕ) → v * (A * U) ≡ A * v * U
+      two v = simp (mul-assoc, mul-comm, mul-left-comm)
+
+  stepped : (r e f e' E W : ℕ) → r + h ≡ G → q * B ≤ A * G → A * G ≤ (q + 6) * B → h * n * G ≤ g * q → g * q ≤ (h * n + n + 3) * G → g ≤ G → A * (w * w) ≤ B → e ≡ f + 6 → e' ≤ n * (w * w) * f
       → Apart (g * Z) (0 * Z) (E * G) (W * G) (e' * Z) → Apart (r * U) (0 * U) ((U + W) * G) (E * G) (e * U)
   stepped r e f e' E W whole lo hi i j small l is room a =
       rw (is, zero-mul U, add-mul U W G, add-mul f 6 U)
@@ -135,7 +158,7 @@ module _ (G A B U Z q g h n : ℕ) (g0 : 0 < G) (b0 : 0 < B) (n2 : 2 ≤ n) (law
       (sym (add-mul r h U) ∙ ap (λ (x : ℕ). x * U) whole ∙ mul-comm G U)
       (taken-low lo i)
       (le-trans (taken-high hi j small) (le-of-eq (add-mul h 6 U)))
-      (le-trans (mul-le-mul-right Z room) (le-trans (le-of-eq (turn n f Z)) (mul-le-mul-left f (smaller l))))
+      (le-trans (mul-le-mul-right Z room) (le-trans (le-of-eq (turn (n * (w * w)) f Z)) (mul-le-mul-left f (smaller l))))
       a)
     where
       turn : (n f Z : ℕ) → n * f * Z ≡ f * (n * Z)
@@ -144,20 +167,23 @@ module _ (G A B U Z q g h n : ℕ) (g0 : 0 < G) (b0 : 0 < B) (n2 : 2 ≤ n) (law
       sums : (rU hU UG gV EG WG eV fU z : ℕ) → z ≡ 0 → rU + hU ≡ UG → hU ≤ gV → gV ≤ hU + 6 * U → eV ≤ fU → Apart gV z EG WG eV → Apart rU 0 (UG + WG) EG (fU + 6 * U)
       sums rU hU UG gV EG WG eV fU z e0 e1 l1 l2 l3 a = record { under = omega (arith, e0, e1, l1, l2, l3, a .under, a .over); over = omega (arith, e0, e1, l1, l2, l3, a .under, a .over) }
 
-square-le : (a b : ℕ) → a ≤ b → a * a ≤ b * b
-square-le a b h = mul-le-mul h h
+square-le : (a b w : ℕ) → a * w ≤ b → a * a * (w * w) ≤ b * b
+square-le a b w h = le-trans (le-of-eq turn) (mul-le-mul h h)
+  where
+    turn : a * a * (w * w) ≡ a * w * (a * w)
+    turn = simp (mul-assoc, mul-left-comm)
 
-pub step : (q k e f e' z g r n : ℕ) → Alternating q (suc (suc k)) e' z g → IsHorner g q n r → n ≡ suc k * suc (suc k) → 2 ≤ n → e ≡ f + 6 → e' ≤ n * f → Alternating q k e (suc (suc z)) r
-step q k e f e' z g r n t i is two six room = record {
+pub step : (w q k e f e' z g r n : ℕ) → Alternating w q (suc (suc k)) e' z g → IsHorner g q n r → n ≡ suc k * suc (suc k) → 2 ≤ n → e ≡ f + 6 → e' ≤ n * (w * w) * f → Alternating w q k e (suc (suc z)) r
+step w q k e f e' z g r n t i is two six room = record {
   most = under r (i .taken) (i .whole);
   near = λ u a b M d b0 l law sq len fit.
       let s : d ≡ suc (suc (d - 2)) = back-two d z len in
       subst (λ (x : ℕ). Apart (r * u k) (0 * u k) (part (λ (j : ℕ). u (k + j)) x east * 2 ^ 63) (part (λ (j : ℕ). u (k + j)) x west * 2 ^ 63) (e * u k)) (sym s)
       (rw (east-further u k (d - 2), west-further u k (d - 2))
-      (stepped (2 ^ 63) (a * a) (b * b) (u k) (u (suc (suc k))) q g (i .taken) n (pow-pos 63) (mul-pos b0 b0) two
+      (stepped w (2 ^ 63) (a * a) (b * b) (u k) (u (suc (suc k))) q g (i .taken) n (pow-pos 63) (mul-pos b0 b0) two
       (subst (λ (x : ℕ). b * b * (x * u (suc (suc k))) ≡ a * a * u k) (sym is) (two-law u a b M k law (fits d z k M len fit)))
       r e f e' (part (λ (j : ℕ). u (suc (suc k) + j)) (d - 2) east) (part (λ (j : ℕ). u (suc (suc k) + j)) (d - 2) west)
-      (i .whole) (sq .low) (sq .high) (i .low) (i .high) (t .most) (square-le a b l) six room
+      (i .whole) (sq .low) (sq .high) (i .low) (i .high) (t .most) (square-le a b w l) six room
       (t .near u a b M (d - 2) b0 l law sq (rest d z len) (rest-fits d z k M len fit))));
 }
   where
@@ -226,12 +252,15 @@ module _ (u : ℕ → ℕ) (a b M k d : ℕ) (b0 : 0 < b) (l : a ≤ b) (law : L
       go : (x y : ℕ) → x ≡ y → y ≤ 1 * x
       go x y e = omega arith
 
-pub last : (q k : ℕ) → 0 < k → Alternating q k (2 ^ 63) 0 (2 ^ 63)
-last q k k0 = record {
+pub last : (w q k : ℕ) → 0 < w → 0 < k → Alternating w q k (2 ^ 63) 0 (2 ^ 63)
+last w q k w0 k0 = record {
   most = le-refl (2 ^ 63);
-  near = λ u a b M d b0 l law sq len fit. go (u k) (part (λ (j : ℕ). u (k + j)) d east) (part (λ (j : ℕ). u (k + j)) d west) (east-least u a b M k d b0 l law k0 fit) (east-most u a b M k d b0 l law k0 fit) (west-most u a b M k d b0 l law k0 fit);
+  near = λ u a b M d b0 h law sq len fit. let l = under a b h in go (u k) (part (λ (j : ℕ). u (k + j)) d east) (part (λ (j : ℕ). u (k + j)) d west) (east-least u a b M k d b0 l law k0 fit) (east-most u a b M k d b0 l law k0 fit) (west-most u a b M k d b0 l law k0 fit);
 }
   where
+    under : (a b : ℕ) → a * w ≤ b → a ≤ b
+    under a b h = le-trans (le-of-eq (sym (mul-one a))) (le-trans (mul-le-mul-left a w0) h)
+
     go : (v E W : ℕ) → v ≤ E → E ≤ 2 * v → W ≤ v → Apart (2 ^ 63 * v) (0 * v) (E * 2 ^ 63) (W * 2 ^ 63) (2 ^ 63 * v)
     go v E W a b c = rw (zero-mul v) record { under = omega (arith, a, b, c); over = omega (arith, a, b, c) }
 
@@ -266,7 +295,7 @@ is-horner g q n h two small small' i = go (h / n) (div-mul-le-self h n) (lt-div-
         most = le-trans (le-trans (le-of-eq (sym (mul-one t))) (mul-le-mul-left t (positive n two))) (le-trans l upper)
 
 -- y is the whole part of a / b * G, and q the upper half of its square
-rooted : (G a b y q : ℕ) → 0 < G → y < G → y * b ≤ a * G → a * G ≤ suc y * b → q * G ≤ y * y → y * y ≤ (q + 4) * G → (q * (b * b) ≤ a * a * G) × (a * a * G ≤ (q + 6) * (b * b))
+pub rooted : (G a b y q : ℕ) → 0 < G → y < G → y * b ≤ a * G → a * G ≤ suc y * b → q * G ≤ y * y → y * y ≤ (q + 4) * G → (q * (b * b) ≤ a * a * G) × (a * a * G ≤ (q + 6) * (b * b))
 rooted G a b y q g0 small l h i j = (
   le-of-mul-le-mul-right {k = G} (le-trans (le-of-eq (one q)) (le-trans (mul-le-mul-right (b * b) i) (le-trans (le-of-eq (pair y b)) (le-trans (mul-le-mul l l) (le-of-eq two))))) g0,
   le-of-mul-le-mul-right {k = G} (le-trans (le-of-eq (sym two)) (le-trans (mul-le-mul h h) (le-trans (le-of-eq (sym (pair (suc y) b))) (le-trans (mul-le-mul-right (b * b) room) (le-of-eq (sym (one (q + 6)))))))) g0,

@@ -1,11 +1,11 @@
--- `small::horner` meets its contract. Assumes nothing.
+-- `fixed::horner` meets its contract. Assumes nothing.
 use Prim.Native.Nat.{_-_, _^_, _/_, _≤_}
 use native.Mathlib.Omega.{arith}
 use borrow.Author.Needs.{needs}
-use Rattle.elementary.specs.Inside.Small.{IsHorner}
-use Rattle.elementary.proofs.small.Alternate.{is-horner}
-use Rattle.elementary.proofs.small.horner.Statement.{statement}
-use Rattle.elementary.proofs.small.horner.Tie as tie
+use Rattle.elementary.specs.Inside.Horner.{IsHorner}
+use Rattle.elementary.proofs.circle.Alternate.{is-horner}
+use Rattle.elementary.proofs.fixed.horner.Statement.{statement}
+use Rattle.elementary.proofs.fixed.horner.Tie as tie
 
 high-requires : tie.Need-high-requires
 high-requires c κs = (omega arith, omega arith)
