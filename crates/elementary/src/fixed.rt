@@ -2,13 +2,14 @@
 ghost use mathlib.Core.Path.{_≡_};
 ghost use mathlib.Core.Logic.{_⊎_};
 ghost use mathlib.Core.Bool.{false};
-ghost use Prim.Native.Nat.{_*_, _^_, _≤_, _<_};
+ghost use Prim.Native.Nat.{_+_, _*_, _^_, _≤_, _<_};
 ghost use lib.Dec.{T};
 ghost use lib.Ieee.{le};
 ghost use lib.Ieee.Exact.{HasValue};
 ghost use lib.Ieee.Positive.{positive};
-ghost use Rattle.elementary.specs.Inside.Fixed.{IsUnpacked, IsHigh};
+ghost use Rattle.elementary.specs.Inside.Fixed.{IsUnpacked, IsHigh, IsDifference, Lies};
 ghost use Rattle.elementary.specs.Inside.Horner.{IsHorner};
+ghost use Rattle.elementary.specs.Inside.Signed.{plus, less};
 
 // A finite x above zero as m * 2^(e - 2148), with an m of 53 binary digits.
 pub fn unpack(x: f64) -> arith::Scaled
@@ -56,4 +57,26 @@ pub fn guarded(guess: f64, low: f64, high: f64) -> f64
         }
     }
     low
+}
+
+// n / 2^52 less 2^-42.
+fn lowered(n: u64) -> f64
+    requires { ⌜ n < 2 ^ 53 ⌝ }
+    ensures { λ r. ⌜ IsDifference r n 1024 (2 ^ 52) ⌝ }
+{
+    if n < 1024 {
+        return -parts(1024 - n);
+    }
+    parts(n - 1024)
+}
+
+// The guess, where it is within 2^-42 of n / 2^52, or of -n / 2^52 for a sign other than 0.
+pub fn tested(guess: f64, sign: u64, n: u64) -> f64
+    requires { ⌜ n + 1024 < 2 ^ 53 ⌝ }
+    ensures { λ r. ⌜ Lies r (plus sign n) (less sign n + 1024) (plus sign n + 1024) (less sign n) (2 ^ 52) ⌝ }
+{
+    if sign == 0 {
+        return guarded(guess, lowered(n), parts(n + 1024));
+    }
+    guarded(guess, -parts(n + 1024), -lowered(n))
 }

@@ -1,5 +1,5 @@
-// The sine and the cosine of a double. From 1 on both are computed twice: in doubles, to the last
-// bits, of which nothing is proved, and in whole numbers, which prove it within 2^-42 of themselves.
+// The sine and the cosine of a double. Both are computed twice: in doubles, to the last bits, of which
+// nothing is proved, and in whole numbers, which the first are tested by.
 ghost use mathlib.Core.Path.{_≡_};
 ghost use mathlib.Core.Bool.{false};
 ghost use Prim.Native.Nat.{_+_, _*_, _^_, _≤_, _<_};
@@ -9,8 +9,6 @@ ghost use lib.Ieee as Ieee;
 ghost use lib.Ieee.{fin};
 ghost use lib.Ieee.Positive.{num, den};
 ghost use Rattle.elementary.specs.Sine.{IsCosine, IsSine, isTiny, Cosine, Sine};
-ghost use Rattle.elementary.specs.Inside.Fixed.{IsDifference, Lies};
-ghost use Rattle.elementary.specs.Inside.Circle.{plus, less};
 
 // x * 2^52, which is a whole number from 1 on.
 fn scaled(x: f64) -> u64
@@ -73,7 +71,7 @@ fn cosine_series(high: f64, low: f64) -> f64 {
     near + (((1.0 - near) - half) + (w * (even + z * odd) - high * low))
 }
 
-// The sine of x, from 1 to 200, and `ahead` quarters of a turn: the cosine for one. Nothing is proved
+// The sine of x, up to 200, and `ahead` quarters of a turn: the cosine for one. Nothing is proved
 // of it; what it gives is tested.
 fn guess(x: f64, ahead: f64) -> f64 {
     let r = reduced(x, ahead);
@@ -92,28 +90,6 @@ fn guess(x: f64, ahead: f64) -> f64 {
     -cosine_series(high, low)
 }
 
-// n / 2^52 less 2^-42.
-fn lowered(n: u64) -> f64
-    requires { ⌜ n < 2 ^ 53 ⌝ }
-    ensures { λ r. ⌜ IsDifference r n 1024 (2 ^ 52) ⌝ }
-{
-    if n < 1024 {
-        return -super::fixed::parts(1024 - n);
-    }
-    super::fixed::parts(n - 1024)
-}
-
-// The guess, where it is within 2^-42 of n / 2^52, or of -n / 2^52 for a sign other than 0.
-fn tested(guess: f64, sign: u64, n: u64) -> f64
-    requires { ⌜ n + 1024 < 2 ^ 53 ⌝ }
-    ensures { λ r. ⌜ Lies r (plus sign n) (less sign n + 1024) (plus sign n + 1024) (less sign n) (2 ^ 52) ⌝ }
-{
-    if sign == 0 {
-        return super::fixed::guarded(guess, lowered(n), super::fixed::parts(n + 1024));
-    }
-    super::fixed::guarded(guess, -super::fixed::parts(n + 1024), -lowered(n))
-}
-
 // The cosine of x, from 1 to 200.
 fn far_cosine(x: f64) -> f64
     requires { ⌜ T (Ieee.le (fin false 1 (pos 0)) x) ⌝ ∗ ⌜ T (Ieee.le x (fin false 25 (pos 3))) ⌝ }
@@ -122,7 +98,7 @@ fn far_cosine(x: f64) -> f64
     let p = super::circle::circle(scaled(x), 11);
     let c = p.c;
     let cn = p.cn;
-    tested(guess(x, 1.0), cn, c >> 11)
+    super::fixed::tested(guess(x, 1.0), cn, c >> 11)
 }
 
 // The sine of x, from 1 to 200.
@@ -133,7 +109,7 @@ fn far_sine(x: f64) -> f64
     let p = super::circle::circle(scaled(x), 11);
     let s = p.s;
     let sn = p.sn;
-    tested(guess(x, 0.0), sn, s >> 11)
+    super::fixed::tested(guess(x, 0.0), sn, s >> 11)
 }
 
 // The cosine of x, from 0 to 200.
@@ -146,7 +122,7 @@ fn ranged_cosine(x: f64) -> f64
         return 1.0;
     }
     if x < 1.0 {
-        return super::small::low_cosine(x);
+        return super::small::low_cosine(x, guess(x, 1.0));
     }
     far_cosine(x)
 }
@@ -161,7 +137,7 @@ fn ranged_sine(x: f64) -> f64
         return x;
     }
     if x < 1.0 {
-        return super::small::low_sine(x);
+        return super::small::low_sine(x, guess(x, 0.0));
     }
     far_sine(x)
 }

@@ -1,6 +1,7 @@
 // The sine and the cosine of a double below 1, each by one series in whole numbers.
+ghost use mathlib.Core.Path.{_≡_};
 ghost use mathlib.Core.Bool.{false};
-ghost use Prim.Native.Nat.{_+_, _*_, _^_, _≤_, _<_};
+ghost use Prim.Native.Nat.{_+_, _-_, _*_, _^_, _≤_, _<_};
 ghost use lib.Dec.{T};
 ghost use lib.IntN.{pos};
 ghost use lib.Ieee as Ieee;
@@ -8,6 +9,7 @@ ghost use lib.Ieee.{fin, binary64};
 ghost use lib.Ieee.Exact.{HasValue};
 ghost use lib.Ieee.Positive.{num, den};
 ghost use Rattle.elementary.specs.Sine.{IsCosine, IsSine};
+ghost use Rattle.elementary.specs.Inside.Fixed.{Lies};
 ghost use Rattle.elementary.specs.Inside.Horner.{Alternating};
 ghost use Rattle.elementary.specs.Inside.Small.{IsSplit, IsSquare};
 
@@ -83,8 +85,37 @@ fn placed(m: u64, k: u64) -> f64
     super::fixed::parts(m) / ((one << (k + 1)) as f64)
 }
 
-// The sine of x, from 2^-27 to 1.
-pub fn low_sine(x: f64) -> f64
+// n less 1024, or 0.
+fn lower(n: u64) -> u64
+    ensures { λ r. ⌜ r ≡ n - 1024 ⌝ }
+{
+    if n < 1024 {
+        return 0;
+    }
+    n - 1024
+}
+
+// n with 1024 more, or the largest number of 53 binary digits.
+fn upper(n: u64) -> u64
+    requires { ⌜ n < 2 ^ 53 ⌝ }
+    ensures { λ r. ⌜ (n ≤ r) × (r ≤ n + 1024) × (r < 2 ^ 53) ⌝ }
+{
+    if n < 0x1f_ffff_ffff_fc00 {
+        return n + 1024;
+    }
+    0x1f_ffff_ffff_ffff
+}
+
+// The guess, where it is within 2^-42 of n / 2^53 of n / 2^(53 + k).
+fn tested_share(guess: f64, n: u64, k: u64) -> f64
+    requires { ⌜ (n < 2 ^ 53) × (k ≤ 26) ⌝ }
+    ensures { λ r. ⌜ Lies r (n - 1024) 0 (n + 1024) 0 (2 ^ 52 * 2 ^ (k + 1)) ⌝ }
+{
+    super::fixed::guarded(guess, placed(lower(n), k), placed(upper(n), k))
+}
+
+// The sine of x, from 2^-27 to 1: the guess, where the series proves it.
+pub fn low_sine(x: f64, guess: f64) -> f64
     requires { ⌜ T (Ieee.le (Ieee.ofBits binary64 0x3e40_0000_0000_0000) x) ⌝ ∗ ⌜ T (Ieee.lt x (fin false 1 (pos 0))) ⌝ }
     ensures { λ r. ⌜ IsSine x r ⌝ }
 {
@@ -92,11 +123,11 @@ pub fn low_sine(x: f64) -> f64
     let m = p.m;
     let k = p.k;
     let g = odd_sum(own_square(m, k));
-    placed((super::fixed::high(m, g) + 512) >> 10, k)
+    tested_share(guess, (super::fixed::high(m, g) + 512) >> 10, k)
 }
 
-// The cosine of x, from 2^-27 to 1.
-pub fn low_cosine(x: f64) -> f64
+// The cosine of x, from 2^-27 to 1: the guess, where the series proves it.
+pub fn low_cosine(x: f64, guess: f64) -> f64
     requires { ⌜ T (Ieee.le (Ieee.ofBits binary64 0x3e40_0000_0000_0000) x) ⌝ ∗ ⌜ T (Ieee.lt x (fin false 1 (pos 0))) ⌝ }
     ensures { λ r. ⌜ IsCosine x r ⌝ }
 {
@@ -104,5 +135,5 @@ pub fn low_cosine(x: f64) -> f64
     let m = p.m;
     let k = p.k;
     let g = even_sum(own_square(m, k));
-    super::fixed::parts((g + 1024) >> 11)
+    super::fixed::tested(guess, 0, (g + 1024) >> 11)
 }

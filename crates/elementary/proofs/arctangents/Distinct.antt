@@ -8,7 +8,8 @@ use lib.Dec.{leb→le}
 use lib.Pow.{pow-pos}
 use Rattle.elementary.specs.Series.{term}
 use Rattle.elementary.specs.Inside.Fixed.{Apart}
-use Rattle.elementary.specs.Inside.Circle.{State, IsCircle, error, plus, less}
+use Rattle.elementary.specs.Inside.Signed.{plus, less}
+use Rattle.elementary.specs.Inside.Circle.{State, IsCircle, error}
 use Rattle.elementary.specs.Inside.Arctangent.{Good, NearlyAbove, NearlyBelow}
 use Rattle.elementary.proofs.circle.Signed.{apart-wider}
 use Rattle.elementary.proofs.circle.Squares.{twice-le}

@@ -14,7 +14,8 @@ use lib.Ieee.{Float, nan, inf, fin, up, down}
 use lib.Ieee.Exact.{HasValue}
 use lib.Ieee.Positive.{num, den}
 use Rattle.elementary.specs.Inside.Fixed.{Apart, IsHigh}
-use Rattle.elementary.specs.Inside.Circle.{State, IsCircle, error, plus, less}
+use Rattle.elementary.specs.Inside.Signed.{plus, less}
+use Rattle.elementary.specs.Inside.Circle.{State, IsCircle, error}
 use Rattle.elementary.specs.Inside.Arctangent.{Above, Below, Found}
 
 -- ---- comparisons across powers of 2

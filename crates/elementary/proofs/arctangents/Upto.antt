@@ -11,7 +11,8 @@ use Rattle.elementary.specs.Series.{east, north, west, south, at, sum, p
 use Rattle.elementary.specs.Series.{term}
 use Rattle.elementary.specs.Arctangent.{NotBelow}
 use Rattle.elementary.specs.Inside.Fixed.{Apart}
-use Rattle.elementary.specs.Inside.Circle.{State, IsCircle, error, plus, less}
+use Rattle.elementary.specs.Inside.Signed.{plus, less}
+use Rattle.elementary.specs.Inside.Circle.{State, IsCircle, error}
 use Rattle.elementary.specs.Inside.Arctangent.{Good}
 use Rattle.elementary.proofs.circle.Sums.{sum-upto}
 use Rattle.elementary.proofs.circle.Terms.{term-law, ratio, halves, gain}

@@ -12,7 +12,8 @@ use Rattle.elementary.specs.Series.{Quarter, east, north, west, south, a
 use Rattle.elementary.specs.Series.{falling, term}
 use Rattle.elementary.specs.Inside.Fixed.{Apart}
 use Rattle.elementary.specs.Inside.Law.{Law}
-use Rattle.elementary.specs.Inside.Circle.{State, IsFirst, IsDoubled, IsCircle, error, plus, less}
+use Rattle.elementary.specs.Inside.Signed.{plus, less}
+use Rattle.elementary.specs.Inside.Circle.{State, IsFirst, IsDoubled, IsCircle, error}
 use Rattle.elementary.proofs.circle.Signed.{apart-times, apart-cancel, apart-wider}
 use Rattle.elementary.proofs.circle.Sums.{sum-cong, sum-times}
 use Rattle.elementary.proofs.circle.Terms.{level, level-law, level-zero, term-law, doubled-law, proportion}

@@ -5,7 +5,8 @@ use native.Mathlib.Nat.{le-trans, le-of-eq, le-of-lt, le-refl, lt-of-not-le, add
 use native.Mathlib.Decide.{decLe}
 use native.Mathlib.Omega.{arith}
 use Rattle.elementary.specs.Inside.Fixed.{Apart}
-use Rattle.elementary.specs.Inside.Circle.{IsDoubled, plus, less}
+use Rattle.elementary.specs.Inside.Signed.{plus, less}
+use Rattle.elementary.specs.Inside.Circle.{IsDoubled}
 use Rattle.elementary.proofs.circle.Onward.{Rounded}
 
 -- ---- the signs

@@ -1,17 +1,14 @@
 -- From whole numbers to doubles. Assumes nothing.
 use mathlib.Core.Path.{_≡_, sym, ap, _∙_}
 use Prim.Native.Nat.{ℕ, zero, suc, _+_, _*_, _/_, _^_, _≤_, zero-le}
-use native.Mathlib.Nat.{le-trans, le-of-eq, le-refl, add-le-add, add-comm, mul-add, add-mul, mul-comm, mul-assoc, mul-right-comm, mul-le-mul-left, mul-le-mul-right, zero-mul}
+use native.Mathlib.Nat.{le-trans, le-of-eq, le-refl, add-le-add, add-comm, mul-add, add-mul, mul-comm, mul-assoc, mul-right-comm, mul-le-mul-left, mul-le-mul-right}
 use native.Mathlib.Omega.{arith}
-use mathlib.Core.Bool.{false}
 use lib.Ieee.{Float}
-use lib.Ieee.Exact.{HasValue}
 use lib.Ieee.Positive.{den}
 use Rattle.elementary.specs.Within.{Within}
 use Rattle.elementary.specs.Within as C
-use Rattle.elementary.specs.Inside.Fixed.{Apart, IsDifference, Lies}
-use Rattle.elementary.specs.Inside.Circle.{plus, less}
-use Rattle.elementary.proofs.fixed.Order.{difference-more}
+use Rattle.elementary.specs.Inside.Fixed.{Apart, Lies}
+use Rattle.elementary.specs.Inside.Signed.{plus, less}
 
 -- ---- a number within 2 ^ -42 of the code's cut to 52 digits is within 2 ^ -40 of the series
 -- (x - y) / d is the number, (p - l) / 2 ^ 52 the code's cut, and (c - m) / 2 ^ 63 the code's
@@ -71,23 +68,6 @@ within-of r c P Q U k v h =
 
     sides : (m p q c w : ℕ) → p + m ≤ c + q + w → m + p ≤ q + c + w
     sides m p q c w h = omega (arith, h)
-
--- the cut itself
-pub within-own : (r : Float) (c P Q U : ℕ) → HasValue r false (c / 2 ^ 11) (2 ^ 52) → Apart (c * U) (0 * U) (P * 2 ^ 63) (Q * 2 ^ 63) (2 ^ 22 * U) → Within r P Q U 1 1
-within-own r c P Q U v h = within-of r c P Q U 0 (lies (difference-more r (c / 2 ^ 11) (2 ^ 52) v)) h
-  where
-    lies : IsDifference r (c / 2 ^ 11) 0 (2 ^ 52) → Lies r (c / 2 ^ 11) 1024 (c / 2 ^ 11 + 1024) 0 (2 ^ 52)
-    lies d = record {
-      number = d .number;
-      from = go (C.plus r * 2 ^ 52) (C.less r * 2 ^ 52) (c / 2 ^ 11 * den r) (0 * den r) (1024 * den r) (zero-mul (den r)) (d .value);
-      upto = le-trans (le-of-eq (d .value)) (add-le-add (mul-le-mul-right (den r) (more (c / 2 ^ 11))) (le-refl (C.less r * 2 ^ 52)));
-    }
-      where
-        go : (a b n z k : ℕ) → z ≡ 0 → a + z ≡ n + b → n + b ≤ a + k
-        go a b n z k e h = omega arith
-
-        more : (n : ℕ) → n ≤ n + 1024
-        more n = omega arith
 
 -- a share of i / j that is not below 1
 pub wider : (r : Float) (P Q U i j : ℕ) → j ≤ i → Within r P Q U 1 1 → Within r P Q U i j

@@ -1,28 +1,28 @@
 -- Arguments below 1: from the sums of the square's series to the doubles. Assumes nothing.
 use mathlib.Core.Path.{_≡_, refl, sym, ap, _∙_, subst}
-use mathlib.Core.Bool.{true, false, true≢false}
+use mathlib.Core.Bool.{true, false}
 use Prim.Native.Nat.{ℕ, suc, _+_, _-_, _*_, _/_, _^_, _≤_, _<_}
-use native.Mathlib.Nat.{mul-one, le-trans, le-of-eq, le-of-lt, le-refl, add-le-add, mul-add, add-mul, mul-comm, mul-assoc, mul-left-comm, mul-right-comm, mul-le-mul, mul-le-mul-left, mul-le-mul-right, le-of-mul-le-mul-right, le-of-mul-le-mul-left, mul-pos, zero-lt-suc, one-mul, zero-mul, mul-zero, lt-of-lt-of-le, mul-mul-mul-comm}
+use native.Mathlib.Nat.{eq-of-mul-eq-mul-right, mul-one, le-trans, le-of-eq, le-of-lt, le-refl, add-le-add, mul-add, add-mul, mul-comm, mul-assoc, mul-left-comm, mul-right-comm, mul-le-mul, mul-le-mul-left, mul-le-mul-right, le-of-mul-le-mul-right, le-of-mul-le-mul-left, mul-pos, zero-lt-suc, one-mul, zero-mul, mul-zero, lt-of-lt-of-le, mul-mul-mul-comm}
 use native.Mathlib.Omega.{arith}
 use lib.Pow.{pow-pos, pow-add}
 use lib.Dec.{leb→le}
 use lib.IntN.{pos}
 use lib.Ieee.{Float, nan, inf, fin, up, down}
-use lib.Ieee.Exact.{HasValue}
 use lib.Ieee.Positive.{num, den, den-pos}
 use Rattle.elementary.specs.Series.{Quarter, east, north, west, south, start, back, part}
 use Rattle.elementary.specs.Series.{term}
 use Rattle.elementary.specs.Within.{Within}
 use Rattle.elementary.specs.Within as C
 use Rattle.elementary.specs.Arctangent.{NotBelow}
-use Rattle.elementary.specs.Inside.Fixed.{Apart, IsHigh}
-use Rattle.elementary.specs.Inside.Circle.{State, plus, less}
+use Rattle.elementary.specs.Inside.Fixed.{Apart, IsHigh, Lies}
+use Rattle.elementary.specs.Inside.Signed.{plus, less}
+use Rattle.elementary.specs.Inside.Circle.{State}
 use Rattle.elementary.specs.Inside.Horner.{IsRoot, Alternating}
 use Rattle.elementary.specs.Inside.Small.{IsSplit}
 use Rattle.elementary.proofs.circle.Terms.{term-law}
 use Rattle.elementary.proofs.circle.Alternate.{two-law, east-further, west-further, east-most, west-most, from-zero, from-one}
 use Rattle.elementary.proofs.circle.Signed.{apart-times}
-use Rattle.elementary.proofs.sines.Doubles.{within-own}
+use Rattle.elementary.proofs.sines.Doubles.{within-of}
 use Rattle.elementary.proofs.sines.Range.{Whole}
 
 -- ---- a share of i / j that is not above 1 is within 1
@@ -72,10 +72,10 @@ share-over A D P Q U i j pl le p q h = rw (p, q, zero-mul U) (le-trans (le-of-eq
 
 -- ---- the sums without their first terms
 -- ---- the cosine
-pub cosine-low : (r : Float) (a b q g n : ℕ) → 0 < b → a < b → IsRoot a b q → Alternating 1 q 0 20 20 g → 600 ≤ n → HasValue r false ((g + 1024) / 2 ^ 11) (2 ^ 52)
+pub cosine-low : (r : Float) (a b q g n : ℕ) → 0 < b → a < b → IsRoot a b q → Alternating 1 q 0 20 20 g → 600 ≤ n → Lies r ((g + 1024) / 2 ^ 11) 1024 ((g + 1024) / 2 ^ 11 + 1024) 0 (2 ^ 52)
     → Within r (part (term a b n) n east) (part (term a b n) n west) (term a b n 0) 1 1
 cosine-low r a b q g n p h sq t l v =
-    within-own r (g + 1024) (part (term a b n) n east) (part (term a b n) n west) (term a b n 0) v
+    within-of r (g + 1024) (part (term a b n) n east) (part (term a b n) n west) (term a b n 0) 0 v
     (rw (from-zero (term a b n) n east, from-zero (term a b n) n west)
     (go g (term a b n 0) (part (λ (j : ℕ). term a b n (0 + j)) n east * 2 ^ 63) (part (λ (j : ℕ). term a b n (0 + j)) n west * 2 ^ 63) (t .near (term a b n) a b n n p (le-trans (le-of-eq (mul-one a)) (le-of-lt h)) (term-law a b n) sq (enough n l) (same n))))
   where
@@ -92,8 +92,8 @@ cosine-low r a b q g n p h sq t l v =
         sums x z a = record { under = omega (arith, a .under, a .over); over = omega (arith, a .under, a .over) }
 
 -- ---- the sine, on numbers: r is A / D, x is a / b
-module _ (G H A D R a b m g p E W U v : ℕ) (h0 : 0 < H) (isG : G ≡ 2 ^ 63)
-    (value : A * H ≡ R * D) (near-low : R ≤ p + 512) (near-high : p ≤ R + 511) (low : p * G ≤ m * g) (high : m * g ≤ (p + 4) * G)
+module _ (G H A D R₀ R₁ a b m g p E W U v : ℕ) (h0 : 0 < H) (isG : G ≡ 2 ^ 63)
+    (value-low : A * H ≤ R₁ * D) (value-high : R₀ * D ≤ A * H) (near-low : R₁ ≤ p + 1049088) (near-high : p ≤ R₀ + 1049087) (low : p * G ≤ m * g) (high : m * g ≤ (p + 4) * G)
     (split : a * H ≡ m * b) (least : 2 ^ 62 ≤ m) (first : b * v ≡ a * U) (near : Apart (g * v) (0 * v) (E * G) (W * G) (20 * v)) where
   abbrev B1 : ℕ
   B1 = b * U * D
@@ -110,14 +110,17 @@ module _ (G H A D R a b m g p E W U v : ℕ) (h0 : 0 < H) (isG : G ≡ 2 ^ 63)
   abbrev S : ℕ
   S = a * (D * U)
 
-  own : X * (G * H) ≡ B1 * (R * G)
-  own = one ∙ ap (λ (z : ℕ). b * U * z * G) value ∙ two
-    where
-      one : b * (A * U) * (G * H) ≡ b * U * (A * H) * G
-      one = simp (mul-assoc, mul-comm, mul-left-comm)
+  own : (R : ℕ) → b * U * (R * D) * G ≡ B1 * (R * G)
+  own R = simp (mul-assoc, mul-comm, mul-left-comm)
 
-      two : b * U * (R * D) * G ≡ b * U * D * (R * G)
-      two = simp (mul-assoc, mul-comm, mul-left-comm)
+  held : X * (G * H) ≡ b * U * (A * H) * G
+  held = simp (mul-assoc, mul-comm, mul-left-comm)
+
+  own-low : X * (G * H) ≤ B1 * (R₁ * G)
+  own-low = le-trans (le-of-eq held) (le-trans (mul-le-mul-right G (mul-le-mul-left (b * U) value-low)) (le-of-eq (own R₁)))
+
+  own-high : B1 * (R₀ * G) ≤ X * (G * H)
+  own-high = le-trans (le-of-eq (sym (own R₀))) (le-trans (mul-le-mul-right G (mul-le-mul-left (b * U) value-high)) (le-of-eq (sym held)))
 
   turned : B1 * (m * g) ≡ b * (D * H) * (g * v)
   turned = one ∙ ap (λ (z : ℕ). U * D * g * z) (sym split) ∙ two ∙ ap (λ (z : ℕ). D * g * H * z) (sym first) ∙ three
@@ -159,15 +162,15 @@ module _ (G H A D R a b m g p E W U v : ℕ) (h0 : 0 < H) (isG : G ≡ 2 ^ 63)
       twice x s h = omega arith
 
   -- the rounded product, and the sums, in the common unit
-  rounded-low : X * (G * H) ≤ B1 * (m * g) + 512 * (B1 * G)
-  rounded-low = le-trans (le-of-eq own) (le-trans (mul-le-mul-left B1 (le-trans (mul-le-mul-right G near-low) (le-trans (le-of-eq (add-mul p 512 G)) (add-le-add low (le-refl (512 * G)))))) (le-of-eq (mul-add B1 (m * g) (512 * G) ∙ ap (λ (z : ℕ). B1 * (m * g) + z) (mul-left-comm B1 512 G))))
+  rounded-low : X * (G * H) ≤ B1 * (m * g) + 1049088 * (B1 * G)
+  rounded-low = le-trans own-low (le-trans (mul-le-mul-left B1 (le-trans (mul-le-mul-right G near-low) (le-trans (le-of-eq (add-mul p 1049088 G)) (add-le-add low (le-refl (1049088 * G)))))) (le-of-eq (mul-add B1 (m * g) (1049088 * G) ∙ ap (λ (z : ℕ). B1 * (m * g) + z) (mul-left-comm B1 1049088 G))))
 
-  rounded-high : B1 * (m * g) ≤ X * (G * H) + 515 * (B1 * G)
+  rounded-high : B1 * (m * g) ≤ X * (G * H) + 1049091 * (B1 * G)
   rounded-high =
-      le-trans (mul-le-mul-left B1 (le-trans high (le-trans (mul-le-mul-right G (more p R near-high)) (le-of-eq (add-mul R 515 G)))))
-      (le-of-eq (mul-add B1 (R * G) (515 * G) ∙ ap (λ (z : ℕ). z + B1 * (515 * G)) (sym own) ∙ ap (λ (z : ℕ). X * (G * H) + z) (mul-left-comm B1 515 G)))
+      le-trans (mul-le-mul-left B1 (le-trans high (le-trans (mul-le-mul-right G (more p R₀ near-high)) (le-of-eq (add-mul R₀ 1049091 G)))))
+      (le-trans (le-of-eq (mul-add B1 (R₀ * G) (1049091 * G) ∙ ap (λ (z : ℕ). B1 * (R₀ * G) + z) (mul-left-comm B1 1049091 G))) (add-le-add own-high (le-refl (1049091 * (B1 * G)))))
     where
-      more : (p R : ℕ) → p ≤ R + 511 → p + 4 ≤ R + 515
+      more : (p R : ℕ) → p ≤ R + 1049087 → p + 4 ≤ R + 1049091
       more p R h = omega arith
 
   summed : Apart (B1 * (m * g)) 0 (Z * (G * H)) (Y * (G * H)) (20 * (S * H))
@@ -175,43 +178,51 @@ module _ (G H A D R a b m g p E W U v : ℕ) (h0 : 0 < H) (isG : G ≡ 2 ^ 63)
       subst (λ (z : ℕ). Apart (B1 * (m * g)) z (Z * (G * H)) (Y * (G * H)) (20 * (S * H))) (ap (λ (z : ℕ). b * (D * H) * z) (zero-mul v) ∙ mul-zero (b * (D * H)))
       (rw (turned, ← east-of, ← west-of, ← unit, mul-left-comm 20 (b * (D * H)) v) (apart-times (b * (D * H)) near))
 
-  both : (X * (G * H) + Y * (G * H) ≤ Z * (G * H) + 2 ^ 11 * (S * H)) × (Z * (G * H) ≤ X * (G * H) + Y * (G * H) + 2 ^ 11 * (S * H))
+  both : (X * (G * H) + Y * (G * H) ≤ Z * (G * H) + 2 ^ 22 * (S * H)) × (Z * (G * H) ≤ X * (G * H) + Y * (G * H) + 2 ^ 22 * (S * H))
   both = go (X * (G * H)) (Y * (G * H)) (Z * (G * H)) (S * H) (B1 * (m * g)) (B1 * G) rounded-low rounded-high room summed
     where
-      go : (x y z s c d : ℕ) → x ≤ c + 512 * d → c ≤ x + 515 * d → d ≤ 2 * s → Apart c 0 z y (20 * s) → (x + y ≤ z + 2 ^ 11 * s) × (z ≤ x + y + 2 ^ 11 * s)
+      go : (x y z s c d : ℕ) → x ≤ c + 1049088 * d → c ≤ x + 1049091 * d → d ≤ 2 * s → Apart c 0 z y (20 * s) → (x + y ≤ z + 2 ^ 22 * s) × (z ≤ x + y + 2 ^ 22 * s)
       go x y z s c d h k l a = (omega (arith, h, k, l, a .under, a .over), omega (arith, h, k, l, a .under, a .over))
 
   pub sine-under : 2 ^ 40 * (X + Y) ≤ 2 ^ 40 * Z + S
-  sine-under = finish X Y Z S (subst (λ (t : ℕ). X * t + Y * t ≤ Z * t + 2 ^ 11 * S) isG (le-of-mul-le-mul-right {k = H} (le-trans (le-of-eq left) (le-trans (both .0) (le-of-eq right))) h0))
+  sine-under = finish X Y Z S (subst (λ (t : ℕ). X * t + Y * t ≤ Z * t + 2 ^ 22 * S) isG (le-of-mul-le-mul-right {k = H} (le-trans (le-of-eq left) (le-trans (both .0) (le-of-eq right))) h0))
     where
       left : (X * G + Y * G) * H ≡ X * (G * H) + Y * (G * H)
       left = add-mul (X * G) (Y * G) H ∙ ap (λ (z : ℕ). z + Y * G * H) (mul-assoc X G H) ∙ ap (λ (z : ℕ). X * (G * H) + z) (mul-assoc Y G H)
 
-      right : Z * (G * H) + 2 ^ 11 * (S * H) ≡ (Z * G + 2 ^ 11 * S) * H
-      right = sym (add-mul (Z * G) (2 ^ 11 * S) H ∙ ap (λ (z : ℕ). z + 2 ^ 11 * S * H) (mul-assoc Z G H) ∙ ap (λ (z : ℕ). Z * (G * H) + z) (mul-assoc (2 ^ 11) S H))
+      right : Z * (G * H) + 2 ^ 22 * (S * H) ≡ (Z * G + 2 ^ 22 * S) * H
+      right = sym (add-mul (Z * G) (2 ^ 22 * S) H ∙ ap (λ (z : ℕ). z + 2 ^ 22 * S * H) (mul-assoc Z G H) ∙ ap (λ (z : ℕ). Z * (G * H) + z) (mul-assoc (2 ^ 22) S H))
 
-      finish : (x y z s : ℕ) → x * 2 ^ 63 + y * 2 ^ 63 ≤ z * 2 ^ 63 + 2 ^ 11 * s → 2 ^ 40 * (x + y) ≤ 2 ^ 40 * z + s
+      finish : (x y z s : ℕ) → x * 2 ^ 63 + y * 2 ^ 63 ≤ z * 2 ^ 63 + 2 ^ 22 * s → 2 ^ 40 * (x + y) ≤ 2 ^ 40 * z + s
       finish x y z s h = omega (arith, h)
 
   pub sine-over : 2 ^ 40 * Z ≤ 2 ^ 40 * (X + Y) + S
-  sine-over = finish X Y Z S (subst (λ (t : ℕ). Z * t ≤ X * t + Y * t + 2 ^ 11 * S) isG (le-of-mul-le-mul-right {k = H} (le-trans (le-of-eq (mul-assoc Z G H)) (le-trans (both .1) (le-of-eq right))) h0))
+  sine-over = finish X Y Z S (subst (λ (t : ℕ). Z * t ≤ X * t + Y * t + 2 ^ 22 * S) isG (le-of-mul-le-mul-right {k = H} (le-trans (le-of-eq (mul-assoc Z G H)) (le-trans (both .1) (le-of-eq right))) h0))
     where
-      right : X * (G * H) + Y * (G * H) + 2 ^ 11 * (S * H) ≡ (X * G + Y * G + 2 ^ 11 * S) * H
-      right = sym (add-mul (X * G + Y * G) (2 ^ 11 * S) H ∙ ap (λ (z : ℕ). z + 2 ^ 11 * S * H) (add-mul (X * G) (Y * G) H ∙ ap (λ (z : ℕ). z + Y * G * H) (mul-assoc X G H) ∙ ap (λ (z : ℕ). X * (G * H) + z) (mul-assoc Y G H)) ∙ ap (λ (z : ℕ). X * (G * H) + Y * (G * H) + z) (mul-assoc (2 ^ 11) S H))
+      right : X * (G * H) + Y * (G * H) + 2 ^ 22 * (S * H) ≡ (X * G + Y * G + 2 ^ 22 * S) * H
+      right = sym (add-mul (X * G + Y * G) (2 ^ 22 * S) H ∙ ap (λ (z : ℕ). z + 2 ^ 22 * S * H) (add-mul (X * G) (Y * G) H ∙ ap (λ (z : ℕ). z + Y * G * H) (mul-assoc X G H) ∙ ap (λ (z : ℕ). X * (G * H) + z) (mul-assoc Y G H)) ∙ ap (λ (z : ℕ). X * (G * H) + Y * (G * H) + z) (mul-assoc (2 ^ 22) S H))
 
-      finish : (x y z s : ℕ) → z * 2 ^ 63 ≤ x * 2 ^ 63 + y * 2 ^ 63 + 2 ^ 11 * s → 2 ^ 40 * z ≤ 2 ^ 40 * (x + y) + s
+      finish : (x y z s : ℕ) → z * 2 ^ 63 ≤ x * 2 ^ 63 + y * 2 ^ 63 + 2 ^ 22 * s → 2 ^ 40 * z ≤ 2 ^ 40 * (x + y) + s
       finish x y z s h = omega (arith, h)
 
 -- ---- the same of doubles
-pub sine-low : (r : Float) (a b q m k g p n : ℕ) → 0 < b → IsSplit a b m k → IsRoot a b q → Alternating 1 q 1 20 20 g → IsHigh m g p → 600 ≤ n → HasValue r false ((p + 512) / 2 ^ 10) (2 ^ 52 * 2 ^ (k + 1))
+-- what is not below a number from 0 on has no part below zero
+less-none : (r : Float) (p s c : ℕ) → 0 < c → Lies r p 0 s 0 c → C.less r ≡ 0
+less-none nan p s c C0 v = refl
+less-none (inf b) p s c C0 v = refl
+less-none (fin false m e) p s c C0 v = refl
+less-none (fin true m e) p s c C0 v = eq-of-mul-eq-mul-right c C0 (m * up e) 0 (go (p * down e) (m * up e * c) (0 * c) (0 * down e) (zero-mul c) (zero-mul (down e)) (v .from) ∙ sym (zero-mul c))
+  where
+    go : (x y z w : ℕ) → z ≡ 0 → w ≡ 0 → x + y ≤ z + w → y ≡ 0
+    go x y z w e f h = omega arith
+
+pub sine-low : (r : Float) (a b q m k g p n : ℕ) → 0 < b → IsSplit a b m k → IsRoot a b q → Alternating 1 q 1 20 20 g → IsHigh m g p → 600 ≤ n
+    → Lies r ((p + 512) / 2 ^ 10 - 1024) 0 ((p + 512) / 2 ^ 10 + 1024) 0 (2 ^ 52 * 2 ^ (k + 1))
     → Within r (part (term a b n) n north) (part (term a b n) n south) (term a b n 0) a b
-sine-low nan a b q m k g p n b0 s sq t i l v = absurd v
-sine-low (inf s′) a b q m k g p n b0 s sq t i l v = absurd v
-sine-low (fin true M e) a b q m k g p n b0 s sq t i l v = absurd (true≢false (v .0))
-sine-low (fin false M e) a b q m k g p n b0 s sq t i l v = record {
-  number = tt;
-  under = rw (parts north refl, parts south refl) (share-under (M * up e) (down e) E W U a b (M * up e) 0 refl refl (sine-under (2 ^ 63) (2 ^ 63 * 2 ^ k) (M * up e) (down e) (N * 2 ^ 10) a b m g p E W U (u 1) h0 refl value (omega-low N p is-low) (omega-high N p is-high) (i .low) (le-of-lt (i .high)) (s .value) (s .least) first near));
-  over = rw (parts north refl, parts south refl) (share-over (M * up e) (down e) E W U a b (M * up e) 0 refl refl (sine-over (2 ^ 63) (2 ^ 63 * 2 ^ k) (M * up e) (down e) (N * 2 ^ 10) a b m g p E W U (u 1) h0 refl value (omega-low N p is-low) (omega-high N p is-high) (i .low) (le-of-lt (i .high)) (s .value) (s .least) first near));
+sine-low r a b q m k g p n b0 s sq t i l v = record {
+  number = v .number;
+  under = rw (parts north refl, parts south refl) (share-under (C.plus r) (den r) E W U a b (C.plus r) (C.less r) refl none (sine-under (2 ^ 63) (2 ^ 63 * 2 ^ k) (C.plus r) (den r) ((N - 1024) * 2 ^ 10) ((N + 1024) * 2 ^ 10) a b m g p E W U (u 1) h0 refl value-low value-high near-low near-high (i .low) (le-of-lt (i .high)) (s .value) (s .least) first near));
+  over = rw (parts north refl, parts south refl) (share-over (C.plus r) (den r) E W U a b (C.plus r) (C.less r) refl none (sine-over (2 ^ 63) (2 ^ 63 * 2 ^ k) (C.plus r) (den r) ((N - 1024) * 2 ^ 10) ((N + 1024) * 2 ^ 10) a b m g p E W U (u 1) h0 refl value-low value-high near-low near-high (i .low) (le-of-lt (i .high)) (s .value) (s .least) first near));
 }
   where
     u : ℕ → ℕ
@@ -232,23 +243,17 @@ sine-low (fin false M e) a b q m k g p n b0 s sq t i l v = record {
     N : ℕ
     N = (p + 512) / 2 ^ 10
 
-    is-low : N * 2 ^ 10 ≤ p + 512
-    is-low = go p
+    near-low : (N + 1024) * 2 ^ 10 ≤ p + 1049088
+    near-low = go p
       where
-        go : (p : ℕ) → (p + 512) / 2 ^ 10 * 2 ^ 10 ≤ p + 512
+        go : (p : ℕ) → ((p + 512) / 2 ^ 10 + 1024) * 2 ^ 10 ≤ p + 1049088
         go p = omega arith
 
-    is-high : p + 512 < N * 2 ^ 10 + 2 ^ 10
-    is-high = go p
+    near-high : p ≤ (N - 1024) * 2 ^ 10 + 1049087
+    near-high = go p
       where
-        go : (p : ℕ) → p + 512 < (p + 512) / 2 ^ 10 * 2 ^ 10 + 2 ^ 10
+        go : (p : ℕ) → p ≤ ((p + 512) / 2 ^ 10 - 1024) * 2 ^ 10 + 1049087
         go p = omega arith
-
-    omega-low : (N p : ℕ) → N * 2 ^ 10 ≤ p + 512 → N * 2 ^ 10 ≤ p + 512
-    omega-low N p h = h
-
-    omega-high : (N p : ℕ) → p + 512 < N * 2 ^ 10 + 2 ^ 10 → p ≤ N * 2 ^ 10 + 511
-    omega-high N p h = omega arith
 
     longer : (n : ℕ) → 600 ≤ n → n ≡ suc (n - 1)
     longer n l = omega arith
@@ -259,11 +264,9 @@ sine-low (fin false M e) a b q m k g p n b0 s sq t i l v = record {
     h0 : 0 < 2 ^ 63 * 2 ^ k
     h0 = mul-pos (pow-pos 63) (pow-pos k)
 
-    value : M * up e * (2 ^ 63 * 2 ^ k) ≡ N * 2 ^ 10 * down e
-    value =
-        one (M * up e) (2 ^ k)
-        ∙ ap (λ (z : ℕ). z * 2 ^ 10) (ap (λ (z : ℕ). M * up e * (2 ^ 52 * z)) (sym (power k)) ∙ v .1)
-        ∙ mul-right-comm N (down e) (2 ^ 10)
+    -- the bounds in the split's units
+    unit : (x : ℕ) → x * (2 ^ 63 * 2 ^ k) ≡ x * (2 ^ 52 * 2 ^ (k + 1)) * 2 ^ 10
+    unit x = one x (2 ^ k) ∙ ap (λ (z : ℕ). x * (2 ^ 52 * z) * 2 ^ 10) (sym (pow-add 2 k 1))
       where
         one : (x y : ℕ) → x * (2 ^ 63 * y) ≡ x * (2 ^ 52 * (y * 2)) * 2 ^ 10
         one x y = mul-left-comm x (2 ^ 63) y ∙ go (x * y) ∙ ap (λ (z : ℕ). z * 2 ^ 10) (sym (mul-left-comm x (2 ^ 52) (y * 2) ∙ ap (λ (z : ℕ). 2 ^ 52 * z) (sym (mul-assoc x y 2))))
@@ -271,8 +274,20 @@ sine-low (fin false M e) a b q m k g p n b0 s sq t i l v = record {
             go : (z : ℕ) → 2 ^ 63 * z ≡ 2 ^ 52 * (z * 2) * 2 ^ 10
             go z = omega arith
 
-        power : (k : ℕ) → 2 ^ (k + 1) ≡ 2 ^ k * 2
-        power k = pow-add 2 k 1
+    none : C.less r ≡ 0
+    none = less-none r (N - 1024) (N + 1024) (2 ^ 52 * 2 ^ (k + 1)) (mul-pos (pow-pos 52) (pow-pos (k + 1))) v
+
+    value-low : C.plus r * (2 ^ 63 * 2 ^ k) ≤ (N + 1024) * 2 ^ 10 * den r
+    value-low = le-trans (le-of-eq (unit (C.plus r))) (le-trans (mul-le-mul-right (2 ^ 10) (upto (C.plus r * (2 ^ 52 * 2 ^ (k + 1))) (0 * den r) ((N + 1024) * den r) (C.less r * (2 ^ 52 * 2 ^ (k + 1))) (ap (λ (z : ℕ). z * (2 ^ 52 * 2 ^ (k + 1))) none ∙ zero-mul (2 ^ 52 * 2 ^ (k + 1))) (v .upto))) (le-of-eq (mul-right-comm (N + 1024) (den r) (2 ^ 10))))
+      where
+        upto : (p z s l : ℕ) → l ≡ 0 → p + z ≤ s + l → p ≤ s
+        upto p z s l e h = omega arith
+
+    value-high : (N - 1024) * 2 ^ 10 * den r ≤ C.plus r * (2 ^ 63 * 2 ^ k)
+    value-high = le-trans (le-of-eq (mul-right-comm (N - 1024) (2 ^ 10) (den r))) (le-trans (mul-le-mul-right (2 ^ 10) (from ((N - 1024) * den r) (C.less r * (2 ^ 52 * 2 ^ (k + 1))) (C.plus r * (2 ^ 52 * 2 ^ (k + 1))) (0 * den r) (zero-mul (den r)) (v .from))) (le-of-eq (sym (unit (C.plus r)))))
+      where
+        from : (s l p z : ℕ) → z ≡ 0 → s + l ≤ p + z → s ≤ p
+        from s l p z e h = omega arith
 
     first : b * u 1 ≡ a * U
     first = ap (λ (x : ℕ). b * x) (sym (one-mul (u 1))) ∙ term-law a b n 0 (lt-of-lt-of-le (zero-lt-suc 599) l)

@@ -3,21 +3,13 @@ use Prim.Native.Nat.{ℕ, zero, suc, _+_, _-_, _*_, _%_, _^_, _≤_, _<_}
 use mathlib.Core.Path.{_≡_}
 use Rattle.elementary.specs.Series.{Quarter, east, north, west, south, back, part, term}
 use Rattle.elementary.specs.Inside.Fixed.{Apart}
+use Rattle.elementary.specs.Inside.Signed.{plus, less}
 use Rattle.elementary.specs.Inside.Law.{Law}
 use Rattle.elementary.specs.Inside.Horner.{Alternating}
 
 -- the product of two such sorted sums, sorted in its turn
 abbrev pub mix : (Quarter → ℕ) → (Quarter → ℕ) → Quarter → ℕ
 mix f g t = f east * g t + f north * g (back t) + f west * g (back (back t)) + f south * g (back (back (back t)))
-
--- a number by its sign (0, or 1 where it is negative) and its size, as a difference of two
-abbrev pub plus : ℕ → ℕ → ℕ
-plus zero n = n
-plus (suc k) n = 0
-
-abbrev pub less : ℕ → ℕ → ℕ
-less zero n = 0
-less (suc k) n = n
 
 -- What one doubling makes of a cosine and a sine in units of 2 ^ -63: the difference of the squares, and twice the product.
 pub record IsDoubled (cn c sn s cn' c' sn' s' : ℕ) : Type 0 where

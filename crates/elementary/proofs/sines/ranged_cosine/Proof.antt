@@ -7,6 +7,7 @@ use lib.Dec.{T}
 use lib.IntN.{pos, negsuc}
 use lib.Ieee.{ofBits}
 use lib.Ieee.Positive.{num, den, den-pos}
+use borrow.Author.Needs.{needs}
 use Rattle.elementary.proofs.small.Low.{one-is}
 use Rattle.elementary.proofs.sines.Range.{tiny-of, from-of}
 use Rattle.elementary.proofs.sines.ranged_cosine.Statement.{statement}
@@ -26,13 +27,16 @@ returns c =
     let t = subst T (sym (c .if1 .taken)) tt in
     (λ n l. one-is (num x) (den x) n (den-pos x) (tiny-of x (c .before .pre .0) t) l, λ k. refl)
 
+guess-requires : tie.Need-guess-requires
+guess-requires c κs = search needs
+
 low-cosine-requires : tie.Need-low-cosine-requires
 unfolding ofBits
-low-cosine-requires c κs = (from-of (c .before .before .args .x) 0 (negsuc 26) (c .before .before .pre .0) (c .before .if1 .left), subst T (sym (c .if2 .taken)) tt)
+low-cosine-requires c κs = (from-of (c .before .before .before .args .x) 0 (negsuc 26) (c .before .before .before .pre .0) (c .before .before .if1 .left), subst T (sym (c .before .if2 .taken)) tt)
 
 returns-2 : tie.Need-returns-2
 unfolding ofBits
-returns-2 c = (c .low-cosine .ensures, λ k. absurd (clash _ (c .before .before .if1 .left) k))
+returns-2 c = (c .low-cosine .ensures, λ k. absurd (clash _ (c .before .before .before .if1 .left) k))
 
 far-cosine-requires : tie.Need-far-cosine-requires
 unfolding ofBits
@@ -43,4 +47,4 @@ unfolding ofBits
 returns-3 c = (c .far-cosine .ensures, λ k. absurd (clash _ (c .before .before .if1 .left) k))
 
 pub ranged-cosine-spec : {M : Type 1} → statement M
-ranged-cosine-spec = tie.close (tie.spec returns low-cosine-requires returns-2 far-cosine-requires returns-3)
+ranged-cosine-spec = tie.close (tie.spec returns guess-requires low-cosine-requires returns-2 far-cosine-requires returns-3)

@@ -7,6 +7,7 @@ use lib.Dec.{T}
 use lib.IntN.{pos, negsuc}
 use lib.Ieee.{ofBits}
 use lib.Ieee.Positive.{num, den, den-pos}
+use borrow.Author.Needs.{needs}
 use Rattle.elementary.proofs.small.Low.{own-is, narrower}
 use Rattle.elementary.proofs.sines.Range.{tiny-of, whole-of, from-of}
 use Rattle.elementary.proofs.sines.ranged_sine.Statement.{statement}
@@ -26,13 +27,16 @@ returns c =
     let t = subst T (sym (c .if1 .taken)) tt in
     (λ n l. let w = own-is x n (whole-of x (c .before .pre .0) t) (tiny-of x (c .before .pre .0) t) l in (narrower x _ _ _ (num x) (den x) (den-pos x) (under (num x) (den x) (tiny-of x (c .before .pre .0) t)) w, w), λ k. refl)
 
+guess-requires : tie.Need-guess-requires
+guess-requires c κs = search needs
+
 low-sine-requires : tie.Need-low-sine-requires
 unfolding ofBits
-low-sine-requires c κs = (from-of (c .before .before .args .x) 0 (negsuc 26) (c .before .before .pre .0) (c .before .if1 .left), subst T (sym (c .if2 .taken)) tt)
+low-sine-requires c κs = (from-of (c .before .before .before .args .x) 0 (negsuc 26) (c .before .before .before .pre .0) (c .before .before .if1 .left), subst T (sym (c .before .if2 .taken)) tt)
 
 returns-2 : tie.Need-returns-2
 unfolding ofBits
-returns-2 c = (c .low-sine .ensures, λ k. absurd (clash _ (c .before .before .if1 .left) k))
+returns-2 c = (c .low-sine .ensures, λ k. absurd (clash _ (c .before .before .before .if1 .left) k))
 
 far-sine-requires : tie.Need-far-sine-requires
 unfolding ofBits
@@ -43,4 +47,4 @@ unfolding ofBits
 returns-3 c = (c .far-sine .ensures, λ k. absurd (clash _ (c .before .before .if1 .left) k))
 
 pub ranged-sine-spec : {M : Type 1} → statement M
-ranged-sine-spec = tie.close (tie.spec returns low-sine-requires returns-2 far-sine-requires returns-3)
+ranged-sine-spec = tie.close (tie.spec returns guess-requires low-sine-requires returns-2 far-sine-requires returns-3)

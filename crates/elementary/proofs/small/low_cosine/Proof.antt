@@ -22,14 +22,14 @@ even-sum-requires c κs = c .own-square .ensures .most
 sum-fits : (g : ℕ) → g ≤ 2 ^ 63 → g + 1024 < 2 ^ 64
 sum-fits g h = omega arith
 
-part-fits : (g : ℕ) → g ≤ 2 ^ 63 → (g + 1024) / 2 ^ 11 < 2 ^ 53
+part-fits : (g : ℕ) → g ≤ 2 ^ 63 → (g + 1024) / 2 ^ 11 + 1024 < 2 ^ 53
 part-fits g h = omega arith
 
-add-parts : tie.Need-add-parts
-add-parts c = record { fits = sum-fits (c .even-sum .result) (c .even-sum .ensures .most) }
+add-tested : tie.Need-add-tested
+add-tested c = record { fits = sum-fits (c .even-sum .result) (c .even-sum .ensures .most) }
 
-parts-requires : tie.Need-parts-requires
-parts-requires c κs = part-fits (c .even-sum .result) (c .even-sum .ensures .most)
+tested-requires : tie.Need-tested-requires
+tested-requires c κs = part-fits (c .even-sum .result) (c .even-sum .ensures .most)
 
 returns : tie.Need-returns
 returns c =
@@ -37,7 +37,7 @@ returns c =
     let s = c .before .before .before .split in
     let q = c .before .before .own-square in
     let t = c .before .even-sum in
-    λ n l. cosine-low (c .parts .result) (num x) (den x) (q .result) (t .result) n (den-pos x) (s .ensures .below) (q .ensures .near (num x) (den x) (s .ensures .value)) (t .ensures) l (c .parts .ensures)
+    λ n l. cosine-low (c .tested .result) (num x) (den x) (q .result) (t .result) n (den-pos x) (s .ensures .below) (q .ensures .near (num x) (den x) (s .ensures .value)) (t .ensures) l (c .tested .ensures)
 
 pub low-cosine-spec : {M : Type 1} → statement M
-low-cosine-spec = tie.close (tie.spec split-requires own-square-requires even-sum-requires add-parts parts-requires returns)
+low-cosine-spec = tie.close (tie.spec split-requires own-square-requires even-sum-requires add-tested tested-requires returns)

@@ -44,11 +44,11 @@ high-requires c κs = (wide (c .before .before .split .result .m) (c .before .be
 topped : (c : tie.After-high) → c .high .result ≤ 2 ^ 63 - 2 ^ 10
 topped c = top (c .before .before .before .split .result .m) (c .before .odd-sum .result) (c .high .result) (c .before .before .before .split .ensures .most) (c .before .odd-sum .ensures .most) (c .high .ensures)
 
-add-placed : tie.Need-add-placed
-add-placed c = record { fits = sum-fits (c .high .result) (topped c) }
+add-tested-share : tie.Need-add-tested-share
+add-tested-share c = record { fits = sum-fits (c .high .result) (topped c) }
 
-placed-requires : tie.Need-placed-requires
-placed-requires c κs = (part-fits (c .high .result) (topped c), c .before .before .before .split .ensures .shift)
+tested-share-requires : tie.Need-tested-share-requires
+tested-share-requires c κs = (part-fits (c .high .result) (topped c), c .before .before .before .split .ensures .shift)
 
 returns : tie.Need-returns
 returns c =
@@ -58,8 +58,8 @@ returns c =
     let t = c .before .before .odd-sum in
     let h = c .before .high in
     λ n l.
-    let w = sine-low (c .placed .result) (num x) (den x) (q .result) (s .result .m) (s .result .k) (t .result) (h .result) n (den-pos x) (s .ensures) (q .ensures .near (num x) (den x) (s .ensures .value)) (t .ensures) (h .ensures) l (c .placed .ensures) in
-    (narrower (c .placed .result) _ _ _ (num x) (den x) (den-pos x) (le-of-lt (s .ensures .below)) w, w)
+    let w = sine-low (c .tested-share .result) (num x) (den x) (q .result) (s .result .m) (s .result .k) (t .result) (h .result) n (den-pos x) (s .ensures) (q .ensures .near (num x) (den x) (s .ensures .value)) (t .ensures) (h .ensures) l (c .tested-share .ensures) in
+    (narrower (c .tested-share .result) _ _ _ (num x) (den x) (den-pos x) (le-of-lt (s .ensures .below)) w, w)
 
 pub low-sine-spec : {M : Type 1} → statement M
-low-sine-spec = tie.close (tie.spec split-requires own-square-requires odd-sum-requires high-requires add-placed placed-requires returns)
+low-sine-spec = tie.close (tie.spec split-requires own-square-requires odd-sum-requires high-requires add-tested-share tested-share-requires returns)

@@ -1,15 +1,15 @@
--- `sines::tested` meets its contract. Assumes nothing.
+-- `fixed::tested` meets its contract. Assumes nothing.
 use mathlib.Core.Path.{_≡_, refl, sym, subst}
 use Prim.Native.Nat.{ℕ, zero, suc, _+_, _^_, _≤_, _<_}
 use native.Mathlib.Omega.{arith}
 use borrow.Author.Needs.{needs}
 use lib.Ieee.{Float, neg}
 use Rattle.elementary.specs.Inside.Fixed.{Lies}
-use Rattle.elementary.specs.Inside.Circle.{plus, less}
+use Rattle.elementary.specs.Inside.Signed.{plus, less}
 use Rattle.elementary.proofs.fixed.Exactly.{negated}
 use Rattle.elementary.proofs.fixed.Order.{difference-more, difference-less, opposite, lies-of}
-use Rattle.elementary.proofs.sines.tested.Statement.{statement}
-use Rattle.elementary.proofs.sines.tested.Tie as tie
+use Rattle.elementary.proofs.fixed.tested.Statement.{statement}
+use Rattle.elementary.proofs.fixed.tested.Tie as tie
 
 small : (n : ℕ) → n + 1024 < 2 ^ 53 → n < 2 ^ 53
 small n h = omega arith

@@ -1,4 +1,4 @@
--- `sines::lowered` meets its contract. Assumes nothing.
+-- `fixed::lowered` meets its contract. Assumes nothing.
 use mathlib.Core.Path.{_≡_, refl, ap, _∙_}
 use Prim.Native.Nat.{ℕ, _+_, _-_, _*_, _^_, _≤_, _<_}
 use native.Mathlib.Nat.{add-mul}
@@ -10,8 +10,8 @@ use Rattle.elementary.specs.Within.{plus, less}
 use Rattle.elementary.specs.Inside.Fixed.{IsDifference}
 use Rattle.elementary.proofs.fixed.Exactly.{negated}
 use Rattle.elementary.proofs.fixed.Order.{difference-more, difference-less}
-use Rattle.elementary.proofs.sines.lowered.Statement.{statement}
-use Rattle.elementary.proofs.sines.lowered.Tie as tie
+use Rattle.elementary.proofs.fixed.lowered.Statement.{statement}
+use Rattle.elementary.proofs.fixed.lowered.Tie as tie
 
 -- a difference is the same with a number added to both
 both-more : (r : Float) (p q k c s t : ℕ) → s ≡ p + k → t ≡ q + k → IsDifference r p q c → IsDifference r s t c
