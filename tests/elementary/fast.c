@@ -21,7 +21,7 @@ double elementary_arctangent(double);
 enum { RANGES = 4, NEIGHBOURS = 20, SHOWN = 10, LEAST_BINADE = -1074, LAST_BINADE = 1023 };
 
 /* In units in the last place, for each of the four: measured, not promised. */
-#define MOST_UNITS 1.0L
+#define MOST_UNITS 1.1L
 #define HALF_PI 1.57079632679489661923132169163975144L
 #define TINY 0x1p-27
 
@@ -188,7 +188,7 @@ static void check(struct function *f, double x) {
     else if (f->tiny != NULL && x < TINY && to_bits(got) != to_bits(f->tiny(x)))
         differ(f, x, got, "has other bits", f->tiny(x));
     else if (!(units <= MOST_UNITS))
-        differ(f, x, got, "is off by more than 1 unit in the last place", exact);
+        differ(f, x, got, "is off by more than 1.1 units in the last place", exact);
 }
 
 /* x, which is above zero, and the doubles next to it. */
