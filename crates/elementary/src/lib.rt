@@ -1,4 +1,5 @@
-// Sine, cosine, decimal logarithm and arctangent.
+// Sine, cosine, decimal logarithm and arctangent. Each is total; specs/ says how near to the exact
+// value it is, and where it is exact.
 mod arctangents;
 mod circle;
 mod fixed;

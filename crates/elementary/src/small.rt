@@ -106,7 +106,7 @@ fn upper(n: u64) -> u64
     0x1f_ffff_ffff_ffff
 }
 
-// The guess, where it is within 2^-42 of n / 2^53 of n / 2^(53 + k).
+// The guess, where it lies from n - 1024 to n + 1024 in units of 2^-(53 + k).
 fn tested_share(guess: f64, n: u64, k: u64) -> f64
     requires { ⌜ (n < 2 ^ 53) × (k ≤ 26) ⌝ }
     ensures { λ r. ⌜ Lies r (n - 1024) 0 (n + 1024) 0 (2 ^ 52 * 2 ^ (k + 1)) ⌝ }
