@@ -1,5 +1,6 @@
 // The arithmetic beneath the modes. Every function here is total and equals its definition in
-// specs/; the crates above know it by these contracts only.
+// specs/, but for `scale`, which takes apart the bits of a finite double above zero; the crates above
+// know it by these contracts only.
 mod choice;
 mod pattern;
 mod powers;

@@ -46,24 +46,21 @@ sine-of : (G U v α β y s g E W : ℕ) → 0 < G → 0 < β → β * v ≡ α *
     → Apart (g * v) (0 * v) (E * G) (W * G) (30 * v) → Apart (s * U) (0 * U) (E * G) (W * G) (16 * U)
 sine-of G U v α β y s g E W G0 B law lo hi tenth low high small a = go (s * U) (g * v) U v (E * G) (W * G) (0 * U) (0 * v) (zero-mul U) (zero-mul v) under (le-trans over (le-of-eq (add-mul s 5 U))) less a
   where
+    same : α * G * U ≡ G * v * β
+    same = turn ∙ ap (λ (x : ℕ). G * x) (sym law) ∙ back
+      where
+        turn : α * G * U ≡ G * (α * U)
+        turn = simp (mul-assoc, mul-comm)
+
+        back : G * (β * v) ≡ G * v * β
+        back = simp (mul-assoc, mul-comm)
+
     -- y ≤ G * v / U ≤ y + 1, and v is at most a tenth of U
     first : y * U ≤ G * v
-    first = le-of-mul-le-mul-right {k = β} (le-trans (le-of-eq (mul-right-comm y U β)) (le-trans (mul-le-mul-right U lo) (le-of-eq (turn α ∙ ap (λ (x : ℕ). G * x) (sym law) ∙ back)))) B
-      where
-        turn : (α : ℕ) → α * G * U ≡ G * (α * U)
-        turn α = simp (mul-assoc, mul-comm)
-
-        back : G * (β * v) ≡ G * v * β
-        back = simp (mul-assoc, mul-comm)
+    first = le-of-mul-le-mul-right {k = β} (le-trans (le-of-eq (mul-right-comm y U β)) (le-trans (mul-le-mul-right U lo) (le-of-eq same))) B
 
     second : G * v ≤ suc y * U
-    second = le-of-mul-le-mul-right {k = β} (le-trans (le-of-eq (sym (turn α ∙ ap (λ (x : ℕ). G * x) (sym law) ∙ back))) (le-trans (mul-le-mul-right U hi) (le-of-eq (mul-right-comm (suc y) β U)))) B
-      where
-        turn : (α : ℕ) → α * G * U ≡ G * (α * U)
-        turn α = simp (mul-assoc, mul-comm)
-
-        back : G * (β * v) ≡ G * v * β
-        back = simp (mul-assoc, mul-comm)
+    second = le-of-mul-le-mul-right {k = β} (le-trans (le-of-eq (sym same)) (le-trans (mul-le-mul-right U hi) (le-of-eq (mul-right-comm (suc y) β U)))) B
 
     less : v * 10 ≤ U
     less = le-of-mul-le-mul-right {k = β} (le-trans (le-of-eq (one ∙ ap (λ (x : ℕ). x * 10) law ∙ mul-right-comm α U 10)) (le-trans (mul-le-mul-right U tenth) (le-of-eq (mul-comm β U)))) B

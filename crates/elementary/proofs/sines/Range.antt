@@ -29,13 +29,6 @@ over-zero (inf s) p = absurd p
 over-zero (fin true m e) p = absurd p
 over-zero (fin false m e) p = lt→ltb (0 * 1 * down e) (m * up e * 1) (subst (λ (z : ℕ). z < m * up e * 1) (sym (zero-mul (down e))) (mul-pos (mul-pos (ltb→lt 0 m p) (up-pos e)) (zero-lt-suc 0)))
 
-pub under-inf : (x : Float) → T (positive x) → T (lt x (inf false))
-unfolding lt
-under-inf nan p = absurd p
-under-inf (inf s) p = absurd p
-under-inf (fin true m e) p = absurd p
-under-inf (fin false m e) p = tt
-
 pub at-least : (x : Float) → T (le (fin false 1 (pos 0)) x) → T (positive x) → den x ≤ num x
 at-least x h p = le-trans (le-of-eq (sym (one-mul (den x)))) (le-trans (le→cross (fin false 1 (pos 0)) x tt p h) (le-of-eq (mul-one (num x))))
 
@@ -343,7 +336,11 @@ whole-zero (fin false m e) h k z = record { number = tt; more = refl; none = ref
 whole-zero (fin true zero e) h k z = record { number = tt; more = sym (zero-mul (up e)); none = zero-mul (up e) }
 whole-zero (fin true (suc m) e) h k z = absurd (apart-from (0 * 1 * down e) (suc m * up e * 1) (zero-mul (down e)) (side m e) (eqb→eq (0 * 1 * down e) (suc m * up e * 1) (and-l (eqb (0 * 1 * down e) (suc m * up e * 1)) (eqb (0 * 1 * down e) 0) h)))
 
--- ---- what two tests say of both
+-- ---- what tests say
+pub clash : (b : Bool) → b ≡ false → T b → ⊥
+clash true e t = true≢false e
+clash false e t = t
+
 pub inside : (a b : Bool) → a ≡ true → b ≡ true → T (not (a && b)) → ⊥
 inside true true p q t = t
 inside true false p q t = absurd (true≢false (sym q))

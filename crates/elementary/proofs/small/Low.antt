@@ -70,7 +70,6 @@ share-over A D P Q U i j pl le p q h = rw (p, q, zero-mul U) (le-trans (le-of-eq
         go : (x : ℕ) → x ≡ x + 0
         go x = omega arith
 
--- ---- the sums without their first terms
 -- ---- the cosine
 pub cosine-low : (r : Float) (a b q g n : ℕ) → 0 < b → a < b → IsRoot a b q → Alternating 1 q 0 20 20 g → 600 ≤ n → Lies r ((g + 1024) / 2 ^ 11) 1024 ((g + 1024) / 2 ^ 11 + 1024) 0 (2 ^ 52)
     → Within r (part (term a b n) n east) (part (term a b n) n west) (term a b n 0) 1 1

@@ -4,12 +4,9 @@ use mathlib.Core.Bool.{Bool, true, false, not, true≢false}
 use lib.Dec.{T}
 use lib.IntN.{pos}
 use lib.Ieee.{Float, inf, fin, le, lt, ofBits, div}
+use Rattle.elementary.proofs.sines.Range.{clash}
 use Rattle.elementary.proofs.arctangents.arctangent.Statement.{statement}
 use Rattle.elementary.proofs.arctangents.arctangent.Tie as tie
-
-clash : (b : Bool) → b ≡ false → T b → ⊥
-clash true e t = absurd (true≢false e)
-clash false e t = t
 
 kept : (b : Bool) → b ≡ true → T (not b) → ⊥
 kept true e t = t

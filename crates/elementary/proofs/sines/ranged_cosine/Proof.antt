@@ -1,24 +1,14 @@
 -- `sines::ranged_cosine` meets its contract. Assumes nothing.
-use mathlib.Core.Path.{_≡_, refl, sym, subst}
-use mathlib.Core.Bool.{Bool, true, false}
-use Prim.Native.Nat.{ℕ, _*_, _^_, _≤_}
-use native.Mathlib.Omega.{arith}
+use mathlib.Core.Path.{refl, sym, subst}
 use lib.Dec.{T}
 use lib.IntN.{pos, negsuc}
 use lib.Ieee.{ofBits}
 use lib.Ieee.Positive.{num, den, den-pos}
 use borrow.Author.Needs.{needs}
 use Rattle.elementary.proofs.small.Low.{one-is}
-use Rattle.elementary.proofs.sines.Range.{tiny-of, from-of}
+use Rattle.elementary.proofs.sines.Range.{tiny-of, from-of, clash}
 use Rattle.elementary.proofs.sines.ranged_cosine.Statement.{statement}
 use Rattle.elementary.proofs.sines.ranged_cosine.Tie as tie
-
-clash : (b : Bool) → b ≡ false → T b → ⊥
-clash true e t = absurd (subst T e tt)
-clash false e t = t
-
-under : (a b : ℕ) → a * 2 ^ 27 ≤ b → a ≤ b
-under a b h = omega arith
 
 returns : tie.Need-returns
 unfolding ofBits

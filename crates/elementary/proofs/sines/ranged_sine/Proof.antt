@@ -1,6 +1,5 @@
 -- `sines::ranged_sine` meets its contract. Assumes nothing.
-use mathlib.Core.Path.{_≡_, refl, sym, subst}
-use mathlib.Core.Bool.{Bool, true, false}
+use mathlib.Core.Path.{refl, sym, subst}
 use Prim.Native.Nat.{ℕ, _*_, _^_, _≤_}
 use native.Mathlib.Omega.{arith}
 use lib.Dec.{T}
@@ -9,13 +8,9 @@ use lib.Ieee.{ofBits}
 use lib.Ieee.Positive.{num, den, den-pos}
 use borrow.Author.Needs.{needs}
 use Rattle.elementary.proofs.small.Low.{own-is, narrower}
-use Rattle.elementary.proofs.sines.Range.{tiny-of, whole-of, from-of}
+use Rattle.elementary.proofs.sines.Range.{tiny-of, whole-of, from-of, clash}
 use Rattle.elementary.proofs.sines.ranged_sine.Statement.{statement}
 use Rattle.elementary.proofs.sines.ranged_sine.Tie as tie
-
-clash : (b : Bool) → b ≡ false → T b → ⊥
-clash true e t = absurd (subst T e tt)
-clash false e t = t
 
 under : (a b : ℕ) → a * 2 ^ 27 ≤ b → a ≤ b
 under a b h = omega arith
