@@ -14,10 +14,10 @@ use Rattle.expansion.specs.Sdmn.{sdmn}
 use Rattle.expansion.specs.Sckb.{regulator, terms, firstFactor, sumOf, factorial, filled, sckb}
 use Rattle.angular.specs.Aswfa.{nm2Of, a0Of, negligible, summed, su1Of, su2Of, derivativeAtOne, derivativeInside, beforeSigns, signAt, aswfa}
 use Rattle.joining.specs.Sums as Joining
-use Rattle.disc.specs.Limits.{firstTerms, secondTerms}
-use Rattle.disc.specs.Rmn1 as Rmn1
-use Rattle.disc.specs.Rmn2so.{rmn2so}
-use Rattle.disc.specs.Rswfo.{rswfo}
+use Rattle.radial.specs.Limits.{firstTerms, secondTerms}
+use Rattle.radial.specs.Rmn1 as Rmn1
+use Rattle.radial.specs.Rmn2so.{rmn2so}
+use Rattle.radial.specs.Rswfo.{rswfo}
 use Rattle.modes.specs.Refusals.{signOf, outOfRange, noParameter, refusalOf, tooManyTerms, notFinite}
 use Rattle.modes.specs.Rows.{tooShort, zeroAt, rowIn, rowOf, blankSlices, lessened, dlmfIn, dlmfOf}
 use Rattle.modes.specs.Angular.{outside, angularRefusal, angularPair, angularOf}

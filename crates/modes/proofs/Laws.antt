@@ -20,8 +20,8 @@ use Rattle.expansion.specs.Terms.{hOf, Usable, #175}
 use Rattle.expansion.specs.Sdmn.{sdmn}
 use Rattle.segv.specs.Families.{bothFamilies}
 use Rattle.segv.specs.Row.{Slices, slices, writtenRow, Numbered, answer, segvRow}
-use Rattle.disc.specs.declared.rswfo.Radial as Disc
-use Rattle.disc.specs.Rswfo.{rswfo}
+use Rattle.radial.specs.declared.rswfo.Radial as Disc
+use Rattle.radial.specs.Rswfo.{rswfo}
 use Rattle.angular.specs.declared.aswfa.Pair as Angular
 use Rattle.angular.specs.Aswfa.{aswfa}
 use Rattle.modes.specs.declared.answers.Answer.the-variants.{Pair, Quadruple, Refused}

@@ -4,8 +4,8 @@ use mathlib.Core.Bool.{cond, not}
 use lib.Dec.{eqb}
 use lib.Ieee.{Float, eq}
 use Rattle.arith.specs.Double.{#0}
-use Rattle.disc.specs.declared.rswfo.Radial as Disc
-use Rattle.disc.specs.Rswfo.{rswfo}
+use Rattle.radial.specs.declared.rswfo.Radial as Disc
+use Rattle.radial.specs.Rswfo.{rswfo}
 use Rattle.modes.specs.declared.answers.Answer.{Answer}
 use Rattle.modes.specs.declared.answers.Answer.the-variants.{Quadruple, Refused}
 use Rattle.modes.specs.declared.checking.Mode.{Mode}

@@ -34,7 +34,7 @@ pub fn radial(mode: Mode, cv: f64, x: f64) -> Answer
     if refused != 0 {
         return Answer::Refused(refused);
     }
-    let r = disc::rswfo::rswfo(mode.m as u32, mode.n as u32, mode.c, cv);
+    let r = radial::rswfo::rswfo(mode.m as u32, mode.n as u32, mode.c, cv);
     Answer::Quadruple(
         r.first.value,
         r.first.derivative,
