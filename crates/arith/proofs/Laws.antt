@@ -69,6 +69,18 @@ whole-below (fin false m e) (fin false n d) b v B q =
     small : (c : ℕ) → c < b → min c (2 ^ 31 - 1) < b
     small c l = omega arith
 
+-- the whole part has 31 binary digits at most
+pub whole-most : (x : Float) → wholePart x < 2 ^ 31
+unfolding toUnsigned
+whole-most nan = omega arith
+whole-most (inf true) = omega arith
+whole-most (inf false) = omega arith
+whole-most (fin true m e) = omega arith
+whole-most (fin false m e) = small (m * up e / down e)
+  where
+    small : (c : ℕ) → min c (2 ^ 31 - 1) < 2 ^ 31
+    small c = omega arith
+
 -- ---- whole numbers
 
 -- two whole numbers' product is exact where a double holds each

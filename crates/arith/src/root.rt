@@ -4,7 +4,7 @@ ghost use Prim.Native.Nat.{_+_, _*_, _^_, _≤_, _<_};
 ghost use lib.Dec.{T};
 ghost use lib.Ieee.Positive.{positive};
 ghost use Rattle.arith.specs.Root.{floorRoot, nearestRoot, sqrt};
-ghost use Rattle.arith.specs.Inside.Scaled.{IsScaled};
+ghost use Rattle.arith.specs.Inside.Scaled.{IsScaled, scaled};
 
 // The share t / 2^20 of c.
 fn share(t: u64, c: u64) -> u64
@@ -72,6 +72,7 @@ pub struct Scaled {
 pub fn scale(bits: u64) -> Scaled
     requires { ⌜ (0 < bits) × (bits < 0x7ff0_0000_0000_0000) ⌝ }
     ensures { λ r. ⌜ IsScaled bits (r .m) (r .e) ⌝ }
+    ensures { λ r. ⌜ r ≡ scaled bits ⌝ }
 {
     let field = bits >> 52;
     let digits = bits & 0xf_ffff_ffff_ffff;

@@ -1,8 +1,10 @@
 // The cosine and the sine together, in units of 2^-63: by their series at a fraction of the angle,
 // which is then doubled. c² - s² and 2cs need no π and no reduction.
+ghost use mathlib.Core.Path.{_≡_};
 ghost use Prim.Native.Nat.{_+_, _*_, _^_, _≤_, _<_};
 ghost use Rattle.elementary.specs.Inside.Horner.{Alternating};
 ghost use Rattle.elementary.specs.Inside.Circle.{IsCosineSum, IsDoubled, IsFirst, IsCircle};
+ghost use Rattle.elementary.specs.Inside.CircleValues as CircleValues;
 
 // A cosine and a sine by their sizes, each with its sign: 1 where it is negative.
 pub struct Pair {
@@ -16,6 +18,7 @@ pub struct Pair {
 fn doubled(c: u64, cn: u64, s: u64, sn: u64) -> Pair
     requires { ⌜ (c * c + s * s ≤ 9 * 2 ^ 123) × (cn ≤ 1) × (sn ≤ 1) ⌝ }
     ensures { λ r. ⌜ IsDoubled cn c sn s (r .cn) (r .c) (r .sn) (r .s) ⌝ }
+    ensures { λ r. ⌜ r ≡ CircleValues.doubled c cn s sn ⌝ }
 {
     let cc = super::fixed::high(c, c);
     let ss = super::fixed::high(s, s);
@@ -41,6 +44,7 @@ fn doubled(c: u64, cn: u64, s: u64, sn: u64) -> Pair
 fn cosine_sum(q: u64) -> u64
     requires { ⌜ q ≤ 2 ^ 63 ⌝ }
     ensures { λ r. ⌜ IsCosineSum q r ⌝ }
+    ensures { λ r. ⌜ r ≡ CircleValues.cosineSum q ⌝ }
 {
     let g10 = super::fixed::horner(0x8000_0000_0000_0000, q, 132);
     let g8 = super::fixed::horner(g10, q, 90);
@@ -54,6 +58,7 @@ fn cosine_sum(q: u64) -> u64
 fn sine_sum(q: u64) -> u64
     requires { ⌜ q ≤ 2 ^ 63 ⌝ }
     ensures { λ r. ⌜ Alternating 10 q 1 30 10 r ⌝ }
+    ensures { λ r. ⌜ r ≡ CircleValues.sineSum q ⌝ }
 {
     let g9 = super::fixed::horner(0x8000_0000_0000_0000, q, 110);
     let g7 = super::fixed::horner(g9, q, 72);
@@ -72,6 +77,7 @@ struct Initial {
 fn first(y: u64) -> Initial
     requires { ⌜ y ≤ 200 * 2 ^ 52 ⌝ }
     ensures { λ r. ⌜ IsFirst y (r .c) (r .s) ⌝ }
+    ensures { λ r. ⌜ r ≡ CircleValues.first y ⌝ }
 {
     let q = super::fixed::high(y, y);
     let c = cosine_sum(q);
@@ -87,6 +93,7 @@ pub fn circle(y: u64, doublings: u64) -> Pair
     requires { ⌜ (y ≤ 200 * 2 ^ 52) × (doublings ≤ 11) ⌝ }
     ensures { λ r. ⌜ IsCircle y doublings (r .cn) (r .c) (r .sn) (r .s) ⌝ }
     ensures { λ r. ⌜ (r .c ≤ 9 * 2 ^ 60) × (r .s ≤ 9 * 2 ^ 60) ⌝ }
+    ensures { λ r. ⌜ r ≡ CircleValues.circle y doublings ⌝ }
 {
     let begin = first(y);
     let mut c = begin.c;

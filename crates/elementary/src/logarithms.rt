@@ -11,6 +11,8 @@ ghost use lib.Ieee.Exact.{HasValue};
 ghost use Rattle.elementary.specs.Log10.{Log10, Near};
 ghost use Rattle.elementary.specs.Inside.Fixed.{Lies};
 ghost use Rattle.elementary.specs.Inside.Logarithm.{BinaryLog, TenLog};
+ghost use Rattle.elementary.specs.Functions as Functions;
+ghost use Rattle.elementary.specs.Inside.LogarithmValues.{binaryLog, tenLog, parts, guess, testedBelow, testedAbove, logAboveZero};
 
 // The binary logarithm of m, in units of 2^-22 and cut to a whole number of them or one below that.
 // y / 2^31 lies from 1 to 2. Each turn squares it, and where the square reaches 2 the next binary
@@ -18,6 +20,7 @@ ghost use Rattle.elementary.specs.Inside.Logarithm.{BinaryLog, TenLog};
 fn binary_log(m: u64) -> u64
     requires { ⌜ (2 ^ 52 ≤ m) × (m < 2 ^ 53) ⌝ }
     ensures { λ r. ⌜ BinaryLog m r ⌝ }
+    ensures { λ r. ⌜ r ≡ binaryLog m ⌝ }
 {
     let mut y = m >> 21;
     let mut k: u64 = 52;
@@ -37,6 +40,7 @@ fn binary_log(m: u64) -> u64
 fn ten_log(u: u64) -> u64
     requires { ⌜ u < 0x1_1000_0000 ⌝ }
     ensures { λ r. ⌜ TenLog u r ⌝ }
+    ensures { λ r. ⌜ r ≡ tenLog u ⌝ }
 {
     u * 21306 / 70777
 }
@@ -44,6 +48,7 @@ fn ten_log(u: u64) -> u64
 // n / 2^22 as a double.
 fn parts(n: u32) -> f64
     ensures { λ r. ⌜ HasValue r false n (2 ^ 22) ⌝ }
+    ensures { λ r. ⌜ r ≡ parts n ⌝ }
 {
     n as f64 / 4194304.0
 }
@@ -55,6 +60,7 @@ fn parts(n: u32) -> f64
 // first, of 41 digits, is exact, and so is the product of the second, of 26, with as many of d - d^2/2.
 fn guess(m: u64, e: u64) -> f64
     requires { ⌜ (m < 2 ^ 53) × (e < 2 ^ 53) ⌝ }
+    ensures { λ r. ⌜ r ≡ guess m e ⌝ }
 {
     let mut f = m as f64 / 4503599627370496.0;
     let mut n = e as f64 - 2096.0;
@@ -97,6 +103,7 @@ fn one_less(n: u64) -> u64
 fn tested_below(guess: f64, n: u64) -> f64
     requires { ⌜ n < 2 ^ 31 ⌝ }
     ensures { λ r. ⌜ Lies r 0 (n + 3) 0 (n - 1) (2 ^ 22) ⌝ }
+    ensures { λ r. ⌜ r ≡ testedBelow guess n ⌝ }
 {
     super::fixed::guarded(guess, -parts((n + 3) as u32), -parts(one_less(n) as u32))
 }
@@ -105,6 +112,7 @@ fn tested_below(guess: f64, n: u64) -> f64
 fn tested_above(guess: f64, n: u64) -> f64
     requires { ⌜ n < 2 ^ 31 ⌝ }
     ensures { λ r. ⌜ Lies r n 0 (n + 3) 0 (2 ^ 22) ⌝ }
+    ensures { λ r. ⌜ r ≡ testedAbove guess n ⌝ }
 {
     super::fixed::guarded(guess, parts(n as u32), parts((n + 3) as u32))
 }
@@ -114,6 +122,7 @@ fn tested_above(guess: f64, n: u64) -> f64
 fn log_above_zero(x: f64) -> f64
     requires { ⌜ T (Ieee.lt (fin false 0 (pos 0)) x) ⌝ ∗ ⌜ T (Ieee.lt x (inf false)) ⌝ }
     ensures { λ r. ⌜ Near x r ⌝ }
+    ensures { λ r. ⌜ r ≡ logAboveZero x ⌝ }
 {
     let s = super::fixed::unpack(x);
     let m = s.m;
@@ -129,6 +138,7 @@ fn log_above_zero(x: f64) -> f64
 // The decimal logarithm of x: -inf for a zero, NaN below zero, and NaN and inf as they are.
 pub fn log10(x: f64) -> f64
     ensures { λ r. ⌜ Log10 x r ⌝ }
+    ensures { λ r. ⌜ r ≡ Functions.log10 x ⌝ }
 {
     if x > 0.0 {
         if x < 1.0 / 0.0 { log_above_zero(x) } else { x }

@@ -1,5 +1,5 @@
-// The sine and the cosine of a double. Both are computed twice: in doubles, to the last bits, of which
-// nothing is proved, and in whole numbers, which the first are tested by.
+// The sine and the cosine of a double. Both are computed twice: in doubles, to the last bits, with no
+// proof of how near that is, and in whole numbers, which the first are tested by.
 ghost use mathlib.Core.Path.{_≡_};
 ghost use mathlib.Core.Bool.{false};
 ghost use Prim.Native.Nat.{_+_, _*_, _^_, _≤_, _<_};
@@ -9,11 +9,14 @@ ghost use lib.Ieee as Ieee;
 ghost use lib.Ieee.{fin};
 ghost use lib.Ieee.Positive.{num, den};
 ghost use Rattle.elementary.specs.Sine.{IsCosine, IsSine, isTiny, Cosine, Sine};
+ghost use Rattle.elementary.specs.Functions as Functions;
+ghost use Rattle.elementary.specs.Inside.SineValues as SineValues;
 
 // x * 2^52, which is a whole number from 1 on.
 fn scaled(x: f64) -> u64
     requires { ⌜ T (Ieee.le (fin false 1 (pos 0)) x) ⌝ ∗ ⌜ T (Ieee.le x (fin false 25 (pos 3))) ⌝ }
     ensures { λ r. ⌜ (r ≤ 200 * 2 ^ 52) × (r * den x ≡ num x * 2 ^ 52) ⌝ }
+    ensures { λ r. ⌜ r ≡ SineValues.scaled x ⌝ }
 {
     let s = super::fixed::unpack(x);
     let m = s.m;
@@ -31,8 +34,10 @@ struct Remainder {
 
 // x, and `ahead` quarters more. π/2 stands in three parts, of 33, 33 and 53 binary digits, so that
 // multiples of the first two are exact. To add 1.5 * 2^52 rounds to a whole number, and the last
-// digits of its pattern are those of the number. Nothing is proved of it.
-fn reduced(x: f64, ahead: f64) -> Remainder {
+// digits of its pattern are those of the number. How near it is is not proved.
+fn reduced(x: f64, ahead: f64) -> Remainder
+    ensures { λ r. ⌜ r ≡ SineValues.reduced x ahead ⌝ }
+{
     let shifted = x * 0.6366197723675814 + 6755399441055744.0;
     let k = shifted - 6755399441055744.0;
     let a = x - k * 1.5707963267341256;
@@ -48,7 +53,9 @@ fn reduced(x: f64, ahead: f64) -> Remainder {
 }
 
 // The sine of high + low, up to π/4, by its series to the 17th power.
-fn sine_series(high: f64, low: f64) -> f64 {
+fn sine_series(high: f64, low: f64) -> f64
+    ensures { λ r. ⌜ r ≡ SineValues.sineSeries high low ⌝ }
+{
     let z = high * high;
     let w = z * z;
     let even = -1.0 / 6.0
@@ -60,7 +67,9 @@ fn sine_series(high: f64, low: f64) -> f64 {
 
 // The cosine of high + low, up to π/4, by its series to the 16th power. What 1 - z/2 loses is added
 // again.
-fn cosine_series(high: f64, low: f64) -> f64 {
+fn cosine_series(high: f64, low: f64) -> f64
+    ensures { λ r. ⌜ r ≡ SineValues.cosineSeries high low ⌝ }
+{
     let z = high * high;
     let w = z * z;
     let even = 1.0 / 24.0
@@ -71,9 +80,11 @@ fn cosine_series(high: f64, low: f64) -> f64 {
     near + (((1.0 - near) - half) + (w * (even + z * odd) - high * low))
 }
 
-// The sine of x, up to 200, and `ahead` quarters of a turn: the cosine for one. Nothing is proved
-// of it; what it gives is tested.
-fn guess(x: f64, ahead: f64) -> f64 {
+// The sine of x, up to 200, and `ahead` quarters of a turn: the cosine for one. How near it is is not
+// proved; what it gives is tested.
+fn guess(x: f64, ahead: f64) -> f64
+    ensures { λ r. ⌜ r ≡ SineValues.guess x ahead ⌝ }
+{
     let r = reduced(x, ahead);
     let quarters = r.quarters;
     let high = r.high;
@@ -94,6 +105,7 @@ fn guess(x: f64, ahead: f64) -> f64 {
 fn far_cosine(x: f64) -> f64
     requires { ⌜ T (Ieee.le (fin false 1 (pos 0)) x) ⌝ ∗ ⌜ T (Ieee.le x (fin false 25 (pos 3))) ⌝ }
     ensures { λ r. ⌜ IsCosine x r ⌝ }
+    ensures { λ r. ⌜ r ≡ SineValues.farCosine x ⌝ }
 {
     let p = super::circle::circle(scaled(x), 11);
     let c = p.c;
@@ -105,6 +117,7 @@ fn far_cosine(x: f64) -> f64
 fn far_sine(x: f64) -> f64
     requires { ⌜ T (Ieee.le (fin false 1 (pos 0)) x) ⌝ ∗ ⌜ T (Ieee.le x (fin false 25 (pos 3))) ⌝ }
     ensures { λ r. ⌜ IsSine x r ⌝ }
+    ensures { λ r. ⌜ r ≡ SineValues.farSine x ⌝ }
 {
     let p = super::circle::circle(scaled(x), 11);
     let s = p.s;
@@ -117,6 +130,7 @@ fn ranged_cosine(x: f64) -> f64
     requires { ⌜ T (Ieee.le (fin false 0 (pos 0)) x) ⌝ ∗ ⌜ T (Ieee.le x (fin false 25 (pos 3))) ⌝ }
     ensures { λ r. ⌜ IsCosine x r ⌝ }
     ensures { λ r. ⌜ (T (isTiny x) → r ≡ fin false 1 (pos 0)) ⌝ }
+    ensures { λ r. ⌜ r ≡ SineValues.rangedCosine x ⌝ }
 {
     if x < 7.450580596923828125e-9 {
         return 1.0;
@@ -132,6 +146,7 @@ fn ranged_sine(x: f64) -> f64
     requires { ⌜ T (Ieee.le (fin false 0 (pos 0)) x) ⌝ ∗ ⌜ T (Ieee.le x (fin false 25 (pos 3))) ⌝ }
     ensures { λ r. ⌜ IsSine x r ⌝ }
     ensures { λ r. ⌜ (T (isTiny x) → r ≡ x) ⌝ }
+    ensures { λ r. ⌜ r ≡ SineValues.rangedSine x ⌝ }
 {
     if x < 7.450580596923828125e-9 {
         return x;
@@ -145,6 +160,7 @@ fn ranged_sine(x: f64) -> f64
 // The cosine of x, from 0 to 200: 1 below 2^-27. NaN outside.
 pub fn cosine(x: f64) -> f64
     ensures { λ r. ⌜ Cosine x r ⌝ }
+    ensures { λ r. ⌜ r ≡ Functions.cosine x ⌝ }
 {
     if 0.0 <= x {
         if x <= 200.0 {
@@ -160,6 +176,7 @@ pub fn cosine(x: f64) -> f64
 // The sine of x, from 0 to 200: x below 2^-27. NaN outside.
 pub fn sine(x: f64) -> f64
     ensures { λ r. ⌜ Sine x r ⌝ }
+    ensures { λ r. ⌜ r ≡ Functions.sine x ⌝ }
 {
     if 0.0 <= x {
         if x <= 200.0 {

@@ -12,6 +12,7 @@ ghost use Rattle.elementary.specs.Sine.{IsCosine, IsSine};
 ghost use Rattle.elementary.specs.Inside.Fixed.{Lies};
 ghost use Rattle.elementary.specs.Inside.Horner.{Alternating};
 ghost use Rattle.elementary.specs.Inside.Small.{IsSplit, IsSquare};
+ghost use Rattle.elementary.specs.Inside.SmallValues as SmallValues;
 
 // The number m / 2^(63 + k).
 struct Fraction {
@@ -23,6 +24,7 @@ struct Fraction {
 fn split(x: f64) -> Fraction
     requires { ⌜ T (Ieee.le (Ieee.ofBits binary64 0x3e40_0000_0000_0000) x) ⌝ ∗ ⌜ T (Ieee.lt x (fin false 1 (pos 0))) ⌝ }
     ensures { λ r. ⌜ IsSplit (num x) (den x) (r .m) (r .k) ⌝ }
+    ensures { λ r. ⌜ r ≡ SmallValues.split x ⌝ }
 {
     let s = super::fixed::unpack(x);
     let m = s.m;
@@ -37,6 +39,7 @@ fn split(x: f64) -> Fraction
 fn own_square(m: u64, k: u64) -> u64
     requires { ⌜ (m < 2 ^ 63) × (k ≤ 26) ⌝ }
     ensures { λ r. ⌜ IsSquare m k r ⌝ }
+    ensures { λ r. ⌜ r ≡ SmallValues.ownSquare m k ⌝ }
 {
     let y = m >> k;
     super::fixed::high(y, y)
@@ -46,6 +49,7 @@ fn own_square(m: u64, k: u64) -> u64
 fn even_sum(q: u64) -> u64
     requires { ⌜ q ≤ 2 ^ 63 ⌝ }
     ensures { λ r. ⌜ Alternating 1 q 0 20 20 r ⌝ }
+    ensures { λ r. ⌜ r ≡ SmallValues.evenSum q ⌝ }
 {
     let g18 = super::fixed::horner(0x8000_0000_0000_0000, q, 380);
     let g16 = super::fixed::horner(g18, q, 306);
@@ -63,6 +67,7 @@ fn even_sum(q: u64) -> u64
 fn odd_sum(q: u64) -> u64
     requires { ⌜ q ≤ 2 ^ 63 ⌝ }
     ensures { λ r. ⌜ Alternating 1 q 1 20 20 r ⌝ }
+    ensures { λ r. ⌜ r ≡ SmallValues.oddSum q ⌝ }
 {
     let g19 = super::fixed::horner(0x8000_0000_0000_0000, q, 420);
     let g17 = super::fixed::horner(g19, q, 342);
@@ -80,6 +85,7 @@ fn odd_sum(q: u64) -> u64
 fn placed(m: u64, k: u64) -> f64
     requires { ⌜ (m < 2 ^ 53) × (k ≤ 26) ⌝ }
     ensures { λ r. ⌜ HasValue r false m (2 ^ 52 * 2 ^ (k + 1)) ⌝ }
+    ensures { λ r. ⌜ r ≡ SmallValues.placed m k ⌝ }
 {
     let one: u64 = 1;
     super::fixed::parts(m) / ((one << (k + 1)) as f64)
@@ -99,6 +105,7 @@ fn lower(n: u64) -> u64
 fn upper(n: u64) -> u64
     requires { ⌜ n < 2 ^ 53 ⌝ }
     ensures { λ r. ⌜ (n ≤ r) × (r ≤ n + 1024) × (r < 2 ^ 53) ⌝ }
+    ensures { λ r. ⌜ r ≡ SmallValues.upper n ⌝ }
 {
     if n < 0x1f_ffff_ffff_fc00 {
         return n + 1024;
@@ -110,6 +117,7 @@ fn upper(n: u64) -> u64
 fn tested_share(guess: f64, n: u64, k: u64) -> f64
     requires { ⌜ (n < 2 ^ 53) × (k ≤ 26) ⌝ }
     ensures { λ r. ⌜ Lies r (n - 1024) 0 (n + 1024) 0 (2 ^ 52 * 2 ^ (k + 1)) ⌝ }
+    ensures { λ r. ⌜ r ≡ SmallValues.testedShare guess n k ⌝ }
 {
     super::fixed::guarded(guess, placed(lower(n), k), placed(upper(n), k))
 }
@@ -118,6 +126,7 @@ fn tested_share(guess: f64, n: u64, k: u64) -> f64
 pub fn low_sine(x: f64, guess: f64) -> f64
     requires { ⌜ T (Ieee.le (Ieee.ofBits binary64 0x3e40_0000_0000_0000) x) ⌝ ∗ ⌜ T (Ieee.lt x (fin false 1 (pos 0))) ⌝ }
     ensures { λ r. ⌜ IsSine x r ⌝ }
+    ensures { λ r. ⌜ r ≡ SmallValues.lowSine x guess ⌝ }
 {
     let p = split(x);
     let m = p.m;
@@ -130,6 +139,7 @@ pub fn low_sine(x: f64, guess: f64) -> f64
 pub fn low_cosine(x: f64, guess: f64) -> f64
     requires { ⌜ T (Ieee.le (Ieee.ofBits binary64 0x3e40_0000_0000_0000) x) ⌝ ∗ ⌜ T (Ieee.lt x (fin false 1 (pos 0))) ⌝ }
     ensures { λ r. ⌜ IsCosine x r ⌝ }
+    ensures { λ r. ⌜ r ≡ SmallValues.lowCosine x guess ⌝ }
 {
     let p = split(x);
     let m = p.m;

@@ -78,12 +78,15 @@ moved d p h =
           most = subst (λ (x : ℕ). d * 2 ^ (z - 11) < 2 ^ x) s′ (shl-lt (suc j) (z - 11) u);
         }
 
+-- moved up, it is still a machine word
+pub kept : (d z : ℕ) → Moved d z → d * 2 ^ (z - 11) % 2 ^ 64 ≡ d * 2 ^ (z - 11)
+kept d z m = mod-eq-of-lt (lt-of-lt-of-le (m .most) (pow-mono {i = 53} {j = 64} (omega arith)))
+
 pub scaled-low : (b z : ℕ) → 0 < b → b < 2 ^ 52 → Moved b z → IsScaled b (b * 2 ^ (z - 11) % 2 ^ 64) (1074 - (z - 11))
 scaled-low b z p h m =
     let s = z - 11 in
     let short : s ≤ 52 = m .move in
-    let fit : b * 2 ^ s % 2 ^ 64 ≡ b * 2 ^ s = mod-eq-of-lt (lt-of-lt-of-le (m .most) (pow-mono {i = 53} {j = 64} (omega arith))) in
-    rw fit (record {
+    rw (kept b z m) (record {
       least = m .least;
       most = m .most;
       from = omega arith;

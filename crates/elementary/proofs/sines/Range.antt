@@ -116,6 +116,12 @@ is-zero (fin false (suc m) e) h z = absurd (not-under (0 * 1 * down e) (suc m * 
 is-zero (fin true (suc m) e) h z = absurd (apart-from (0 * 1 * down e) (suc m * up e * 1) (zero-mul (down e)) (side m e) (eqb→eq (0 * 1 * down e) (suc m * up e * 1) (and-l (eqb (0 * 1 * down e) (suc m * up e * 1)) (eqb (0 * 1 * down e) 0) h)))
 
 -- ---- from 2 ^ -27 to 1
+pub shifted : (m : ℕ) → m < 2 ^ 53 → m * 2 ^ 10 % 2 ^ 64 ≡ m * 2 ^ 10
+shifted m h = mod-eq-of-lt (go m h)
+  where
+    go : (m : ℕ) → m < 2 ^ 53 → m * 2 ^ 10 < 2 ^ 64
+    go m h = omega arith
+
 weaker : (x y : Float) → T (lt x y) → T (le x y)
 unfolding le
 weaker x y h = or-first (lt x y) (eq x y) h
@@ -135,7 +141,7 @@ not-tiny x h p = le-trans (le-of-eq (sym (one-mul (den x)))) (le→cross (ofBits
 pub split-of : (a b m e : ℕ) → 0 < b → a < b → b ≤ a * 2 ^ 27 → 2 ^ 52 ≤ m → m < 2 ^ 53 → a * (2 ^ 1074 * 2 ^ 1074) ≡ m * 2 ^ e * b → (e ≤ 2095) × IsSplit a b (m * 2 ^ 10 % 2 ^ 64) (2095 - e)
 split-of a b m e B h k l u v = (
   upto,
-  rw (mod-eq-of-lt (fits m u)) record {
+  rw (shifted m u) record {
     least = mul-le-mul-right (2 ^ 10) l;
     most = most m u;
     shift = shift e from;
@@ -144,9 +150,6 @@ split-of a b m e B h k l u v = (
   },
 )
   where
-    fits : (m : ℕ) → m < 2 ^ 53 → m * 2 ^ 10 < 2 ^ 64
-    fits m u = omega arith
-
     most : (m : ℕ) → m < 2 ^ 53 → m * 2 ^ 10 ≤ 2 ^ 63 - 2 ^ 10
     most m u = omega arith
 

@@ -26,23 +26,23 @@ shl-nearest-root c = search needs
 
 nearest-root-requires : tie.Need-nearest-root-requires
 nearest-root-requires c κs =
-    let s = c .scale .ensures in
+    let s = c .scale .ensures .0 in
     rw (part-fits (c .scale .result .m) (c .scale .result .e) (s .least) (s .most)) (part-in (c .scale .result .m) (c .scale .result .e) (s .least) (s .most))
 
 -- what `nearest_root` returned
 is : (c : tie.After-nearest-root) → c .nearest-root .result ≡ nearestRoot (part (c .before .scale .result .m) (c .before .scale .result .e) * 2 ^ 52) 1
 is c =
     let s = c .before .scale in
-    c .nearest-root .ensures ∙ ap (λ (w : ℕ). nearestRoot (w * 2 ^ 52) 1) (part-fits (s .result .m) (s .result .e) (s .ensures .least) (s .ensures .most))
+    c .nearest-root .ensures ∙ ap (λ (w : ℕ). nearestRoot (w * 2 ^ 52) 1) (part-fits (s .result .m) (s .result .e) (s .ensures .0 .least) (s .ensures .0 .most))
 
 most : (c : tie.After-nearest-root) → c .nearest-root .result ≤ 2 ^ 53
 most c =
     let s = c .before .scale in
     let a = c .before .before in
-    rw (is c) (result-le (a .args .x) (held a) (a .pre) (s .result .m) (s .result .e) (s .ensures))
+    rw (is c) (result-le (a .args .x) (held a) (a .pre) (s .result .m) (s .result .e) (s .ensures .0))
 
 pattern-lt : (c : tie.After-nearest-root) → (c .before .scale .result .e - 52) / 2 * 2 ^ 52 + c .nearest-root .result < 2047 * 2 ^ 52
-pattern-lt c = omega (arith, most c, c .before .scale .ensures .upto)
+pattern-lt c = omega (arith, most c, c .before .scale .ensures .0 .upto)
 
 sub-result : tie.Need-sub-result
 sub-result c = search needs
@@ -61,7 +61,7 @@ returns c =
     let s = c .before .scale in
     let a = c .before .before in
     ap (λ (r : ℕ). ofBits binary64 ((s .result .e - 52) / 2 * 2 ^ 52 + r)) (is c)
-    ∙ result-is (a .args .x) (held a) (a .pre) (s .result .m) (s .result .e) (s .ensures)
+    ∙ result-is (a .args .x) (held a) (a .pre) (s .result .m) (s .result .e) (s .ensures .0)
 
 pub root-above-zero-spec : {M : Type 1} → statement M
 root-above-zero-spec =

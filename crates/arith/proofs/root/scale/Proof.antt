@@ -6,7 +6,9 @@ use native.Mathlib.Omega.{arith}
 use lib.Bits.{bitAnd}
 use lib.Count.{leadingZeros, leading-le}
 use borrow.Author.Needs.{needs}
-use Rattle.arith.proofs.root.Unpack.{mask, Moved, moved, scaled-low, scaled-high}
+use borrow.Author.Tests.{eq-eqb, ne-eqb}
+use Rattle.arith.specs.Inside.Scaled.{scaled}
+use Rattle.arith.proofs.root.Unpack.{mask, Moved, moved, kept, scaled-low, scaled-high}
 use Rattle.arith.proofs.root.scale.Statement.{statement}
 use Rattle.arith.proofs.root.scale.Tie as tie
 
@@ -39,10 +41,12 @@ add-t11 : tie.Need-add-t11
 add-t11 c = search needs
 
 returns : tie.Need-returns
-returns c = rw (digits c) (scaled-low (c .before .args .bits) (leadingZeros 64 (c .before .args .bits)) (c .before .pre .0) (short c) (facts c))
+unfolding scaled
+returns c = (rw (digits c) (scaled-low (c .before .args .bits) (leadingZeros 64 (c .before .args .bits)) (c .before .pre .0) (short c) (facts c)), rw (eq-eqb _ _ (c .if1 .taken), digits c, mod-eq-of-lt (short c), kept _ _ (facts c)))
 
 returns-2 : tie.Need-returns-2
-returns-2 c = rw (mask (c .before .args .bits)) (scaled-high (c .before .args .bits) (omega arith) (c .before .pre .1))
+unfolding scaled
+returns-2 c = (rw (mask (c .before .args .bits)) (scaled-high (c .before .args .bits) (omega arith) (c .before .pre .1)), rw (ne-eqb _ _ (c .if1 .left), mask (c .before .args .bits)))
 
 pub scale-spec : {M : Type 1} → statement M
 scale-spec = tie.close (tie.spec cast-zeros sub-zeros shl-t8 sub-t9 add-t10 add-t11 returns returns-2)

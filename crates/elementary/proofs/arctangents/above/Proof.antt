@@ -70,7 +70,7 @@ high-requires : tie.Need-high-requires
 high-requires c κs = (less-wide (c .before .before .before .before .before .args .c) (c .if5 .left), wide (c .before .before .before .before .before .args .m) (c .before .before .before .before .before .pre .1))
 
 add-reaches : tie.Need-add-reaches
-add-reaches c = record { fits = top-fits (8192 - c .before .before .before .before .before .before .args .c) (c .before .before .before .before .before .before .args .m) (c .high .result) (less-wide (c .before .before .before .before .before .before .args .c) (c .before .if5 .left)) (c .before .before .before .before .before .before .pre .1) (c .high .ensures) }
+add-reaches c = record { fits = top-fits (8192 - c .before .before .before .before .before .before .args .c) (c .before .before .before .before .before .before .args .m) (c .high .result) (less-wide (c .before .before .before .before .before .before .args .c) (c .before .if5 .left)) (c .before .before .before .before .before .before .pre .1) (c .high .ensures .0) }
 
 reaches-requires : tie.Need-reaches-requires
 reaches-requires c κs = search needs
@@ -80,7 +80,7 @@ returns-5 c =
     let a = c .before .before .before .before .before .before .before .args in
     let k = one-of (a .cn) (c .before .before .before .if4 .taken) (a .c) in
     let h = c .before .high .result in
-    let i = high-of (8192 - a .c) (a .m) h (c .before .before .before .before .before .before .before .pre .1) (c .before .high .ensures) in (
+    let i = high-of (8192 - a .c) (a .m) h (c .before .before .before .before .before .before .before .pre .1) (c .before .high .ensures .0) in (
       λ t. record {
         top = 8192 - a .c;
         bottom = a .s - 8192;
@@ -101,7 +101,7 @@ high-requires-2 : tie.Need-high-requires-2
 high-requires-2 c κs = (more-wide (c .before .before .before .before .args .c) (c .before .if3 .left), wide (c .before .before .before .before .args .m) (c .before .before .before .before .pre .1))
 
 add-reaches-2 : tie.Need-add-reaches-2
-add-reaches-2 c = record { fits = top-fits (c .before .before .before .before .before .args .c + 8192) (c .before .before .before .before .before .args .m) (c .high2 .result) (more-wide (c .before .before .before .before .before .args .c) (c .before .before .if3 .left)) (c .before .before .before .before .before .pre .1) (c .high2 .ensures) }
+add-reaches-2 c = record { fits = top-fits (c .before .before .before .before .before .args .c + 8192) (c .before .before .before .before .before .args .m) (c .high2 .result) (more-wide (c .before .before .before .before .before .args .c) (c .before .before .if3 .left)) (c .before .before .before .before .before .pre .1) (c .high2 .ensures .0) }
 
 reaches-requires-2 : tie.Need-reaches-requires-2
 reaches-requires-2 c κs = search needs
@@ -111,7 +111,7 @@ returns-6 c =
     let a = c .before .before .before .before .before .before .args in
     let k = none-of (a .cn) (c .before .before .if4 .left) (a .c) in
     let h = c .before .high2 .result in
-    let i = high-of (a .c + 8192) (a .m) h (c .before .before .before .before .before .before .pre .1) (c .before .high2 .ensures) in (
+    let i = high-of (a .c + 8192) (a .m) h (c .before .before .before .before .before .before .pre .1) (c .before .high2 .ensures .0) in (
       λ t. record {
         top = a .c + 8192;
         bottom = a .s - 8192;

@@ -36,7 +36,7 @@ downto : (y l : ℕ) → y < 7 * 2 ^ 56 → l ≤ y → l ≤ 2 ^ 59
 downto y l h k = omega arith
 
 encloses-requires : tie.Need-encloses-requires
-encloses-requires c κs = (upto (c .before .before .fine .result) (c .beneath .result) (c .before .if3 .taken) (c .beneath .ensures .0), c .before .before .before .before .before .before .unpack .ensures .least, c .before .before .before .before .before .before .unpack .ensures .most)
+encloses-requires c κs = (upto (c .before .before .fine .result) (c .beneath .result) (c .before .if3 .taken) (c .beneath .ensures .0), c .before .before .before .before .before .before .unpack .ensures .0 .least, c .before .before .before .before .before .before .unpack .ensures .0 .most)
 
 -- the bounds are 2 ^ -40 apart, and the guess is between them
 near-low : (y l : ℕ) → y ≤ l + 2 ^ 17 → suc y ≤ l + 2 ^ 18
@@ -63,12 +63,12 @@ returns c =
       up-near = le-trans (mul-le-mul-right (den g) (near-up (f .result) (b .result) (b .ensures .0))) (le-trans (le-of-eq (add-mul (f .result) (2 ^ 18) (den g))) (add-le-add (f .ensures .low) (le-refl (2 ^ 18 * den g))));
       low-upto-two = downto (f .result) (b .result) (c .before .before .before .if3 .taken) (b .ensures .0);
       up-upto-two = upto (f .result) (b .result) (c .before .before .before .if3 .taken) (b .ensures .0);
-      from-below = t .from-below (num x) (den x) (c .before .before .before .before .before .before .before .before .unpack .ensures .value);
-      from-above = t .from-above (num x) (den x) (c .before .before .before .before .before .before .before .before .unpack .ensures .value);
+      from-below = t .from-below (num x) (den x) (c .before .before .before .before .before .before .before .before .unpack .ensures .0 .value);
+      from-above = t .from-above (num x) (den x) (c .before .before .before .before .before .before .before .before .unpack .ensures .0 .value);
     }
 
 bisected-requires : tie.Need-bisected-requires
-bisected-requires c κs = (c .before .before .unpack .ensures .least, c .before .before .unpack .ensures .most)
+bisected-requires c κs = (c .before .before .unpack .ensures .0 .least, c .before .before .unpack .ensures .0 .most)
 
 less-than : (l u : ℕ) → l < u → u ≤ 2 ^ 59 → l / 2 ^ 6 < 2 ^ 53
 less-than l u h k = omega arith
@@ -80,7 +80,7 @@ returns-2 : tie.Need-returns-2
 returns-2 c =
     let f = c .before .bisected in
     let s = c .before .before .before .before .unpack in
-    found-is (c .before .before .before .before .before .args .x) (c .parts .result) (f .result) (s .result .m) (s .result .e) (f .ensures) (c .parts .ensures) (c .before .before .before .before .unpack .ensures .value)
+    found-is (c .before .before .before .before .before .args .x) (c .parts .result) (f .result) (s .result .m) (s .result .e) (f .ensures) (c .parts .ensures .0) (c .before .before .before .before .unpack .ensures .0 .value)
 
 pub arctangent-above-zero-spec : {M : Type 1} → statement M
 arctangent-above-zero-spec = tie.close (tie.spec unpack-requires guess-requires fine-requires beneath-requires encloses-requires returns bisected-requires parts-requires returns-2)

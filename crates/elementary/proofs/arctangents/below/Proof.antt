@@ -53,7 +53,7 @@ returns-5 c =
     let k = none-of (a .cn) (c .before .before .before .before .before .before .if1 .left) (a .c) in
     let l = one-of (a .sn) (c .before .before .if5 .taken) (a .s) in
     let h = c .before .high .result in
-    let i = high-of (a .c - 8192) (a .m) h (c .before .before .before .before .before .before .before .pre .1) (c .before .high .ensures) in (
+    let i = high-of (a .c - 8192) (a .m) h (c .before .before .before .before .before .before .before .pre .1) (c .before .high .ensures .0) in (
       λ t. record {
         top = a .c - 8192;
         bottom = 8192;
@@ -82,7 +82,7 @@ returns-6 c =
     let k = none-of (a .cn) (c .before .before .before .before .before .before .if1 .left) (a .c) in
     let l = none-of (a .sn) (c .before .before .if5 .left) (a .s) in
     let h = c .before .high2 .result in
-    let i = high-of (a .c - 8192) (a .m) h (c .before .before .before .before .before .before .before .pre .1) (c .before .high2 .ensures) in (
+    let i = high-of (a .c - 8192) (a .m) h (c .before .before .before .before .before .before .before .pre .1) (c .before .high2 .ensures .0) in (
       λ t. record {
         top = a .c - 8192;
         bottom = a .s + 8192;

@@ -38,7 +38,7 @@ returns-2 : tie.Need-returns-2
 returns-2 c = λ t. absurd (true≢false (sym t))
 
 further-requires : tie.Need-further-requires
-further-requires c κs = (c .before .before .circle .ensures .1 .0, c .before .before .circle .ensures .1 .1)
+further-requires c κs = (c .before .before .circle .ensures .1 .0 .0, c .before .before .circle .ensures .1 .0 .1)
 
 above-requires : tie.Need-above-requires
 above-requires c κs = (c .before .before .before .before .pre .1, c .before .before .before .before .pre .2)
@@ -49,7 +49,7 @@ moved c =
     let s = c .before .before .before .before in
     let p = c .before .before .before .circle in
     let r = c .further .result in
-    further-is (s .args .low) (p .result .c) (p .result .s) (r .cn) (r .c) (r .sn) (r .s) (s .pre .0) (p .ensures .1 .0) (p .ensures .1 .1)
+    further-is (s .args .low) (p .result .c) (p .result .s) (r .cn) (r .c) (r .sn) (r .s) (s .pre .0) (p .ensures .1 .0 .0) (p .ensures .1 .0 .1)
     (unsigned (s .args .low) (p .result .cn) (p .result .c) (p .result .sn) (p .result .s) (c .before .before .if1 .left) (c .before .if2 .left) (p .ensures .0)) (c .further .ensures)
 
 returns-3 : tie.Need-returns-3

@@ -15,13 +15,13 @@ returns : tie.Need-returns
 returns c =
     let x = c .before .before .args .g in
     let r = c .before .unpack in
-    fine-none (num x) (den x) (r .result .m) (r .result .e) (den-pos x) (below-two x (c .before .before .pre .0) (c .before .before .pre .1)) (r .ensures .least) (r .ensures .most) (c .before .unpack .ensures .value) (c .if1 .taken)
+    fine-none (num x) (den x) (r .result .m) (r .result .e) (den-pos x) (below-two x (c .before .before .pre .0) (c .before .before .pre .1)) (r .ensures .0 .least) (r .ensures .0 .most) (c .before .unpack .ensures .0 .value) (c .if1 .taken)
 
 sub-result : tie.Need-sub-result
 sub-result c =
     let x = c .before .before .args .g in
     let r = c .before .unpack in
-    fine-upto (num x) (den x) (r .result .m) (r .result .e) (den-pos x) (below-two x (c .before .before .pre .0) (c .before .before .pre .1)) (r .ensures .least) (r .ensures .most) (c .before .unpack .ensures .value)
+    fine-upto (num x) (den x) (r .result .m) (r .result .e) (den-pos x) (below-two x (c .before .before .pre .0) (c .before .before .pre .1)) (r .ensures .0 .least) (r .ensures .0 .most) (c .before .unpack .ensures .0 .value)
 
 shr-result : tie.Need-shr-result
 shr-result c = shift-of (c .before .unpack .result .e) (c .if1 .left)
@@ -30,7 +30,7 @@ returns-2 : tie.Need-returns-2
 returns-2 c =
     let x = c .before .before .args .g in
     let r = c .before .unpack in
-    fine-some (num x) (den x) (r .result .m) (r .result .e) (den-pos x) (below-two x (c .before .before .pre .0) (c .before .before .pre .1)) (r .ensures .least) (r .ensures .most) (c .before .unpack .ensures .value)
+    fine-some (num x) (den x) (r .result .m) (r .result .e) (den-pos x) (below-two x (c .before .before .pre .0) (c .before .before .pre .1)) (r .ensures .0 .least) (r .ensures .0 .most) (c .before .unpack .ensures .0 .value)
 
 pub fine-spec : {M : Type 1} → statement M
 fine-spec = tie.close (tie.spec unpack-requires returns sub-result shr-result returns-2)

@@ -142,8 +142,8 @@ returns-4 c =
     let q = c .before .before .circle2 in
     let r = p .result in
     let w = q .result in
-    let g = good-of mid (r .cn) (r .c) (r .sn) (r .s) (mid-of b .most) (p .ensures .0) (p .ensures .1 .0) (p .ensures .1 .1) in
-    let g' = good-of (mid + 2 ^ 16) (w .cn) (w .c) (w .sn) (w .s) (mid-of b .most-too) (q .ensures .0) (q .ensures .1 .0) (q .ensures .1 .1) in
+    let g = good-of mid (r .cn) (r .c) (r .sn) (r .s) (mid-of b .most) (p .ensures .0) (p .ensures .1 .0 .0) (p .ensures .1 .0 .1) in
+    let g' = good-of (mid + 2 ^ 16) (w .cn) (w .c) (w .sn) (w .s) (mid-of b .most-too) (q .ensures .0) (q .ensures .1 .0 .0) (q .ensures .1 .0 .1) in
     absurd
     (distinct mid (r .cn) (r .c) (r .sn) (r .s) (w .cn) (w .c) (w .sn) (w .s) (a .m) (a .e) (mid-of b .most-too) (p .ensures .0) (q .ensures .0) g
     (c .before .above2 .ensures .1 (c .if3 .left) g')

@@ -1,9 +1,10 @@
 -- `circle::circle` meets its contract. Assumes nothing.
-use mathlib.Core.Path.{_≡_, subst}
+use mathlib.Core.Path.{_≡_, sym, subst}
 use Prim.Native.Nat.{ℕ, _+_, _-_, _*_, _^_, _≤_, _<_, zero-le}
 use native.Mathlib.Nat.{le-trans, le-of-eq, add-comm}
 use native.Mathlib.Omega.{arith}
 use native.Mathlib.Numerals.{add-one}
+use Rattle.elementary.specs.Inside.CircleValues as CircleValues
 use Rattle.elementary.proofs.circle.Follows.{Follows, follows-first, follows-next, follows-last, doubled-fits, size-most}
 use Rattle.elementary.proofs.circle.circle.Statement.{statement}
 use Rattle.elementary.proofs.circle.circle.Tie as tie
@@ -24,7 +25,7 @@ room : (j n : ℕ) → j < n → n ≤ 11 → j + 1 < 2 ^ 64
 room j n h k = omega arith
 
 abbrev Inv-loop : tie.InvT-loop
-Inv-loop y n c₀ cn₀ s₀ sn₀ j₀ c cn s sn j = (j ≤ n) × Follows y j cn c sn s
+Inv-loop y n c₀ cn₀ s₀ sn₀ j₀ c cn s sn j = (j ≤ n) × Follows y j cn c sn s × (CircleValues.circle y j ≡ record { c = c; cn = cn; s = s; sn = sn })
 
 abbrev μ-loop : tie.MeasureT-loop
 μ-loop y n c₀ cn₀ s₀ sn₀ j₀ c cn s sn j = n - j
@@ -33,7 +34,8 @@ first-requires : tie.Need-first-requires Inv-loop μ-loop
 first-requires c κs = c .pre .0
 
 loop-holds : tie.Need-loop-holds Inv-loop μ-loop
-loop-holds c = (zero-le, follows-first (c .before .args .y) (c .first .result .c) (c .first .result .s) (c .first .ensures))
+unfolding CircleValues.circle
+loop-holds c = (zero-le, follows-first (c .before .args .y) (c .first .result .c) (c .first .result .s) (c .first .ensures .0), rw (c .first .ensures .1))
 
 doubled-requires : tie.Need-doubled-requires Inv-loop μ-loop
 doubled-requires c κs =
@@ -51,13 +53,14 @@ loop-less : tie.Need-loop-less Inv-loop μ-loop
 loop-less c = falls (c .before .before .loop .j) (c .before .before .before .before .args .doublings) (c .before .loop-test .taken)
 
 loop-again : tie.Need-loop-again Inv-loop μ-loop
+unfolding CircleValues.circle
 loop-again c =
     let l = c .before .before .loop in
     let b = c .before .before .before .before in
     let y = b .args .y in
     let n = b .args .doublings in
     let r = c .doubled .result in
-    (on (l .j) n (c .before .loop-test .taken), rw (add-one (l .j)) (follows-next y (l .j) (l .cn) (l .c) (l .sn) (l .s) (r .cn) (r .c) (r .sn) (r .s) (b .pre .0) (ten (l .j) n (c .before .loop-test .taken) (b .pre .1)) (l .inv .1) (c .doubled .ensures)))
+    (on (l .j) n (c .before .loop-test .taken), rw (add-one (l .j)) (follows-next y (l .j) (l .cn) (l .c) (l .sn) (l .s) (r .cn) (r .c) (r .sn) (r .s) (b .pre .0) (ten (l .j) n (c .before .loop-test .taken) (b .pre .1)) (l .inv .1) (c .doubled .ensures .0)), rw (add-one (l .j), l .inv .2, ← c .doubled .ensures .1))
 
 returns : tie.Need-returns Inv-loop μ-loop
 returns c =
@@ -65,8 +68,9 @@ returns c =
     let b = c .before .before .before in
     let y = b .args .y in
     let n = b .args .doublings in
-    let f = subst (λ (j : ℕ). Follows y j (l .cn) (l .c) (l .sn) (l .s)) (last (l .j) n (l .inv .0) (c .loop-test .left)) (l .inv .1) in
-    (follows-last y n (l .cn) (l .c) (l .sn) (l .s) (b .pre .1) f, (size-most (l .c) (l .s) n (b .pre .1) (f .size), size-most (l .s) (l .c) n (b .pre .1) (le-trans (le-of-eq (add-comm (l .s * l .s) (l .c * l .c))) (f .size))))
+    let e = last (l .j) n (l .inv .0) (c .loop-test .left) in
+    let f = subst (λ (j : ℕ). Follows y j (l .cn) (l .c) (l .sn) (l .s)) e (l .inv .1) in
+    (follows-last y n (l .cn) (l .c) (l .sn) (l .s) (b .pre .1) f, ((size-most (l .c) (l .s) n (b .pre .1) (f .size), size-most (l .s) (l .c) n (b .pre .1) (le-trans (le-of-eq (add-comm (l .s * l .s) (l .c * l .c))) (f .size))), rw (← e) (sym (l .inv .2))))
 
 pub circle-spec : {M : Type 1} → statement M
 circle-spec =

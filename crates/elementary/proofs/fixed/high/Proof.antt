@@ -1,5 +1,7 @@
 -- `fixed::high` meets its contract. Assumes nothing.
+use mathlib.Core.Path.{refl}
 use native.Mathlib.Omega.{arith}
+use Rattle.elementary.specs.Inside.FixedValues.{high}
 use Rattle.elementary.proofs.circle.Halves.{is-upper, small, Small}
 use Rattle.elementary.proofs.fixed.high.Statement.{statement}
 use Rattle.elementary.proofs.fixed.high.Tie as tie
@@ -26,7 +28,8 @@ add-result-2 : tie.Need-add-result-2
 add-result-2 c = omega (arith, fits c)
 
 returns : tie.Need-returns
-returns c = is-upper (c .args .a) (c .args .b)
+unfolding high
+returns c = (is-upper (c .args .a) (c .args .b), refl)
 
 pub high-spec : {M : Type 1} → statement M
 high-spec =

@@ -3,6 +3,7 @@ use Prim.Native.Nat.{_-_, _^_, _/_, _≤_}
 use native.Mathlib.Omega.{arith}
 use borrow.Author.Needs.{needs}
 use Rattle.elementary.specs.Inside.Horner.{IsHorner}
+use Rattle.elementary.specs.Inside.FixedValues.{horner}
 use Rattle.elementary.proofs.circle.Alternate.{is-horner}
 use Rattle.elementary.proofs.fixed.horner.Statement.{statement}
 use Rattle.elementary.proofs.fixed.horner.Tie as tie
@@ -14,13 +15,14 @@ div-result : tie.Need-div-result
 div-result c = search needs
 
 facts : (c : tie.After-high) → (c .high .result / c .before .args .n ≤ 2 ^ 63) × IsHorner (c .before .args .g) (c .before .args .q) (c .before .args .n) (2 ^ 63 - c .high .result / c .before .args .n)
-facts c = is-horner (c .before .args .g) (c .before .args .q) (c .before .args .n) (c .high .result) (c .before .pre .2) (c .before .pre .0) (c .before .pre .1) (c .high .ensures)
+facts c = is-horner (c .before .args .g) (c .before .args .q) (c .before .args .n) (c .high .result) (c .before .pre .2) (c .before .pre .0) (c .before .pre .1) (c .high .ensures .0)
 
 sub-result : tie.Need-sub-result
 sub-result c = facts c .0
 
 returns : tie.Need-returns
-returns c = facts c .1
+unfolding horner
+returns c = (facts c .1, rw (c .high .ensures .1))
 
 pub horner-spec : {M : Type 1} → statement M
 horner-spec = tie.close (tie.spec high-requires div-result sub-result returns)

@@ -4,10 +4,12 @@ use Prim.Native.Nat.{ℕ, _+_, _-_, _*_, _^_, _≤_, _<_}
 use native.Mathlib.Nat.{add-mul}
 use native.Mathlib.Omega.{arith}
 use borrow.Author.Needs.{needs}
+use borrow.Author.Tests.{lt-ltb, le-ltb}
 use lib.Ieee.{Float, neg}
 use lib.Ieee.Positive.{den}
 use Rattle.elementary.specs.Within.{plus, less}
 use Rattle.elementary.specs.Inside.Fixed.{IsDifference}
+use Rattle.elementary.specs.Inside.FixedValues.{lowered}
 use Rattle.elementary.proofs.fixed.Exactly.{negated}
 use Rattle.elementary.proofs.fixed.Order.{difference-more, difference-less}
 use Rattle.elementary.proofs.fixed.lowered.Statement.{statement}
@@ -30,9 +32,10 @@ parts-requires c κs = small (c .before .args .n)
     small n = omega arith
 
 returns : tie.Need-returns
+unfolding lowered
 returns c =
     let n = c .before .before .args .n in
-    both-more (neg (c .parts .result)) 0 (1024 - n) n (2 ^ 52) n 1024 (none n) (sums n (c .before .if1 .taken)) (difference-less (neg (c .parts .result)) (1024 - n) (2 ^ 52) (negated (c .parts .result) (1024 - n) (2 ^ 52) (c .parts .ensures)))
+    (both-more (neg (c .parts .result)) 0 (1024 - n) n (2 ^ 52) n 1024 (none n) (sums n (c .before .if1 .taken)) (difference-less (neg (c .parts .result)) (1024 - n) (2 ^ 52) (negated (c .parts .result) (1024 - n) (2 ^ 52) (c .parts .ensures .0))), rw (lt-ltb _ _ (c .before .if1 .taken), c .parts .ensures .1))
   where
     none : (n : ℕ) → n ≡ 0 + n
     none n = omega arith
@@ -47,9 +50,10 @@ parts-requires-2 c κs = small (c .before .args .n) (c .before .pre)
     small n h = omega arith
 
 returns-2 : tie.Need-returns-2
+unfolding lowered
 returns-2 c =
     let n = c .before .before .args .n in
-    both-more (c .parts2 .result) (n - 1024) 0 1024 (2 ^ 52) n 1024 (sums n (c .before .if1 .left)) refl (difference-more (c .parts2 .result) (n - 1024) (2 ^ 52) (c .parts2 .ensures))
+    (both-more (c .parts2 .result) (n - 1024) 0 1024 (2 ^ 52) n 1024 (sums n (c .before .if1 .left)) refl (difference-more (c .parts2 .result) (n - 1024) (2 ^ 52) (c .parts2 .ensures .0)), rw (le-ltb _ _ (c .before .if1 .left), c .parts2 .ensures .1))
   where
     sums : (n : ℕ) → 1024 ≤ n → n ≡ n - 1024 + 1024
     sums n h = omega arith

@@ -6,6 +6,7 @@ use lib.Dec.{le→leb, leb→le}
 use lib.IntN.{pos}
 use lib.Ieee.{binary64, fin, ofBits, ofInt, inFloat}
 use mathlib.Core.Bool.{false}
+use Rattle.elementary.specs.Inside.FixedValues.{parts}
 use Rattle.elementary.proofs.fixed.Exactly.{whole, over-power}
 use Rattle.elementary.proofs.fixed.parts.Statement.{statement}
 use Rattle.elementary.proofs.fixed.parts.Tie as tie
@@ -15,10 +16,10 @@ unfolding inFloat
 int-to-float-result c = le→leb (c .before .args .n) (2 ^ 53) (le-of-lt (c .before .pre))
 
 returns : tie.Need-returns
-unfolding ofBits
+unfolding parts ofBits
 returns c =
     let n = c .before .args .n in
-    over-power (ofInt binary64 (pos n)) (fin false 1 (pos 52)) n 0 52 (c .before .pre) (leb→le 52 1022 tt) (whole n (c .before .pre)) (refl, refl)
+    (over-power (ofInt binary64 (pos n)) (fin false 1 (pos 52)) n 0 52 (c .before .pre) (leb→le 52 1022 tt) (whole n (c .before .pre)) (refl, refl), refl)
 
 pub parts-spec : {M : Type 1} → statement M
 parts-spec = tie.close (tie.spec int-to-float-result returns)

@@ -3,9 +3,11 @@ use mathlib.Core.Path.{_≡_, refl, sym, subst}
 use Prim.Native.Nat.{ℕ, zero, suc, _+_, _^_, _≤_, _<_}
 use native.Mathlib.Omega.{arith}
 use borrow.Author.Needs.{needs}
+use borrow.Author.Tests.{eq-eqb, ne-eqb}
 use lib.Ieee.{Float, neg}
 use Rattle.elementary.specs.Inside.Fixed.{Lies}
 use Rattle.elementary.specs.Inside.Signed.{plus, less}
+use Rattle.elementary.specs.Inside.FixedValues.{tested}
 use Rattle.elementary.proofs.fixed.Exactly.{negated}
 use Rattle.elementary.proofs.fixed.Order.{difference-more, difference-less, opposite, lies-of}
 use Rattle.elementary.proofs.fixed.tested.Statement.{statement}
@@ -30,11 +32,14 @@ order : (n : ℕ) → n + 0 ≤ n + 1024 + 1024
 order n = omega arith
 
 returns : tie.Need-returns
+unfolding tested
 returns c =
     let a = c .before .before .before .before .args in
-    let n = a .n in
-    subst (λ (k : ℕ). Lies (c .guarded .result) (plus k n) (less k n + 1024) (plus k n + 1024) (less k n) (2 ^ 52)) (sym (c .before .before .before .if1 .taken))
-    (lies-of (c .before .before .lowered .result) (c .before .parts .result) (c .guarded .result) n 1024 (n + 1024) 0 (2 ^ 52) (c .before .before .lowered .ensures) (difference-more (c .before .parts .result) (n + 1024) (2 ^ 52) (c .before .parts .ensures)) (order n) (c .guarded .ensures))
+    let n = a .n in (
+      subst (λ (k : ℕ). Lies (c .guarded .result) (plus k n) (less k n + 1024) (plus k n + 1024) (less k n) (2 ^ 52)) (sym (c .before .before .before .if1 .taken))
+          (lies-of (c .before .before .lowered .result) (c .before .parts .result) (c .guarded .result) n 1024 (n + 1024) 0 (2 ^ 52) (c .before .before .lowered .ensures .0) (difference-more (c .before .parts .result) (n + 1024) (2 ^ 52) (c .before .parts .ensures .0)) (order n) (c .guarded .ensures .0)),
+      rw (c .guarded .ensures .1, eq-eqb _ _ (c .before .before .before .if1 .taken), c .before .parts .ensures .1, c .before .before .lowered .ensures .1),
+    )
 
 add-parts-2 : tie.Need-add-parts-2
 add-parts-2 c = search needs
@@ -56,13 +61,16 @@ order-2 : (n : ℕ) → 0 + n ≤ 1024 + (n + 1024)
 order-2 n = omega arith
 
 returns-2 : tie.Need-returns-2
+unfolding tested
 returns-2 c =
     let a = c .before .before .before .before .args in
     let n = a .n in
     let p = c .before .before .parts2 in
-    let l = c .before .lowered2 in
-    minus (a .sign) n (c .guarded2 .result) (c .before .before .before .if1 .left)
-    (lies-of (neg (p .result)) (neg (l .result)) (c .guarded2 .result) 0 (n + 1024) 1024 n (2 ^ 52) (difference-less (neg (p .result)) (n + 1024) (2 ^ 52) (negated (p .result) (n + 1024) (2 ^ 52) (p .ensures))) (opposite (l .result) n 1024 (2 ^ 52) (l .ensures)) (order-2 n) (c .guarded2 .ensures))
+    let l = c .before .lowered2 in (
+      minus (a .sign) n (c .guarded2 .result) (c .before .before .before .if1 .left)
+          (lies-of (neg (p .result)) (neg (l .result)) (c .guarded2 .result) 0 (n + 1024) 1024 n (2 ^ 52) (difference-less (neg (p .result)) (n + 1024) (2 ^ 52) (negated (p .result) (n + 1024) (2 ^ 52) (p .ensures .0))) (opposite (l .result) n 1024 (2 ^ 52) (l .ensures .0)) (order-2 n) (c .guarded2 .ensures .0)),
+      rw (c .guarded2 .ensures .1, ne-eqb _ _ (c .before .before .before .if1 .left), p .ensures .1, l .ensures .1),
+    )
 
 pub tested-spec : {M : Type 1} → statement M
 tested-spec = tie.close (tie.spec lowered-requires add-parts parts-requires guarded-requires returns add-parts-2 parts-requires-2 lowered-requires-2 guarded-requires-2 returns-2)

@@ -1,9 +1,10 @@
--- `logarithms::guess` is safe: its whole numbers are doubles. Assumes nothing.
+-- `logarithms::guess` meets its contract. Assumes nothing.
+use mathlib.Core.Logic.{⊎-elim}
 use Prim.Native.Nat.{_^_}
 use native.Mathlib.Nat.{le-of-lt}
 use lib.Dec.{le→leb}
 use lib.Ieee.{inFloat}
-use borrow.Author.Needs.{needs}
+use Rattle.elementary.specs.Inside.LogarithmValues.{guessOf, guess}
 use Rattle.elementary.proofs.logarithms.guess.Statement.{statement}
 use Rattle.elementary.proofs.logarithms.guess.Tie as tie
 
@@ -16,7 +17,8 @@ unfolding inFloat
 int-to-float-n c = le→leb (c .before .before .args .e) (2 ^ 53) (le-of-lt (c .before .before .pre .1))
 
 returns : tie.Need-returns
-returns c = search needs
+unfolding guess guessOf
+returns c = ⊎-elim (λ way. rw (way .1, way .2, way .0 .taken)) (λ way. rw (way .1, way .2, way .0 .left)) (c .if1 .came)
 
 pub guess-spec : {M : Type 1} → statement M
 guess-spec = tie.close (tie.spec int-to-float-f int-to-float-n returns)

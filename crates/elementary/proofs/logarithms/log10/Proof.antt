@@ -2,6 +2,7 @@
 use mathlib.Core.Path.{sym, subst}
 use lib.Dec.{T}
 use lib.Ieee.{ofBits, div, neg}
+use Rattle.elementary.specs.Inside.LogarithmValues.{log10}
 use Rattle.elementary.proofs.logarithms.Cases.{is-number, is-inf, is-zero, is-none}
 use Rattle.elementary.proofs.logarithms.log10.Statement.{statement}
 use Rattle.elementary.proofs.logarithms.log10.Tie as tie
@@ -11,20 +12,20 @@ unfolding ofBits div
 log-above-zero-requires c κs = (subst T (sym (c .before .if1 .taken)) tt, subst T (sym (c .if2 .taken)) tt)
 
 returns : tie.Need-returns
-unfolding ofBits div
-returns c = is-number (c .before .before .before .args .x) (c .log-above-zero .result) (c .before .before .if1 .taken) (c .before .if2 .taken) (c .log-above-zero .ensures)
+unfolding log10 ofBits div
+returns c = (is-number (c .before .before .before .args .x) (c .log-above-zero .result) (c .before .before .if1 .taken) (c .before .if2 .taken) (c .log-above-zero .ensures .0), rw (c .before .before .if1 .taken, c .before .if2 .taken) (c .log-above-zero .ensures .1))
 
 returns-2 : tie.Need-returns-2
-unfolding ofBits div
-returns-2 c = is-inf (c .before .before .args .x) (c .before .if1 .taken) (c .if2 .left)
+unfolding log10 ofBits div
+returns-2 c = (is-inf (c .before .before .args .x) (c .before .if1 .taken) (c .if2 .left), rw (c .before .if1 .taken, c .if2 .left))
 
 returns-3 : tie.Need-returns-3
-unfolding ofBits div neg
-returns-3 c = is-zero (c .before .before .args .x) (c .if3 .taken)
+unfolding log10 ofBits div neg
+returns-3 c = (is-zero (c .before .before .args .x) (c .if3 .taken), rw (c .before .if1 .left, c .if3 .taken))
 
 returns-4 : tie.Need-returns-4
-unfolding ofBits div
-returns-4 c = is-none (c .before .before .args .x) (c .before .if1 .left) (c .if3 .left)
+unfolding log10 ofBits div
+returns-4 c = (is-none (c .before .before .args .x) (c .before .if1 .left) (c .if3 .left), rw (c .before .if1 .left, c .if3 .left))
 
 pub log10-spec : {M : Type 1} → statement M
 log10-spec = tie.close (tie.spec log-above-zero-requires returns returns-2 returns-3 returns-4)

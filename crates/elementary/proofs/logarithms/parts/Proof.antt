@@ -6,6 +6,7 @@ use lib.Dec.{leb→le}
 use lib.IntN.{pos}
 use lib.Ieee.{binary64, fin, ofBits, ofInt}
 use borrow.Author.Needs.{needs}
+use Rattle.elementary.specs.Inside.LogarithmValues.{parts}
 use Rattle.elementary.proofs.fixed.Exactly.{whole, over-power}
 use Rattle.elementary.proofs.logarithms.parts.Statement.{statement}
 use Rattle.elementary.proofs.logarithms.parts.Tie as tie
@@ -14,10 +15,10 @@ int-to-float-result : tie.Need-int-to-float-result
 int-to-float-result c = search needs
 
 returns : tie.Need-returns
-unfolding ofBits
+unfolding parts ofBits
 returns c =
     let n = c .before .args .n in
-    over-power (ofInt binary64 (pos n)) (fin false 1 (pos 22)) n 0 22 (omega arith) (leb→le 22 1022 tt) (whole n (omega arith)) (refl, refl)
+    (over-power (ofInt binary64 (pos n)) (fin false 1 (pos 22)) n 0 22 (omega arith) (leb→le 22 1022 tt) (whole n (omega arith)) (refl, refl), refl)
 
 pub parts-spec : {M : Type 1} → statement M
 parts-spec = tie.close (tie.spec int-to-float-result returns)

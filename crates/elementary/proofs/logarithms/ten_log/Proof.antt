@@ -1,5 +1,7 @@
 -- `logarithms::ten_log` meets its contract. Assumes nothing.
+use mathlib.Core.Path.{refl}
 use borrow.Author.Needs.{needs}
+use Rattle.elementary.specs.Inside.LogarithmValues.{tenLog}
 use Rattle.elementary.proofs.logarithms.Tens.{ten-log-is}
 use Rattle.elementary.proofs.logarithms.ten_log.Statement.{statement}
 use Rattle.elementary.proofs.logarithms.ten_log.Tie as tie
@@ -8,7 +10,8 @@ mul-result : tie.Need-mul-result
 mul-result c = search needs
 
 returns : tie.Need-returns
-returns c = ten-log-is (c .args .u) (c .pre)
+unfolding tenLog
+returns c = (ten-log-is (c .args .u) (c .pre), refl)
 
 pub ten-log-spec : {M : Type 1} → statement M
 ten-log-spec = tie.close (tie.spec mul-result returns)

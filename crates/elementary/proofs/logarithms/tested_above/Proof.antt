@@ -2,6 +2,7 @@
 use Prim.Native.Nat.{ℕ, _+_, _^_, _≤_}
 use native.Mathlib.Omega.{arith}
 use borrow.Author.Needs.{needs}
+use Rattle.elementary.specs.Inside.LogarithmValues.{testedAbove}
 use Rattle.elementary.proofs.fixed.Order.{difference-more, lies-of}
 use Rattle.elementary.proofs.logarithms.tested_above.Statement.{statement}
 use Rattle.elementary.proofs.logarithms.tested_above.Tie as tie
@@ -28,11 +29,12 @@ order : (n : ℕ) → n + 0 ≤ n + 3 + 0
 order n = omega arith
 
 returns : tie.Need-returns
+unfolding testedAbove
 returns c =
     let n = c .before .before .before .args .n in
     let l = c .before .before .parts in
     let u = c .before .parts2 in
-    lies-of (l .result) (u .result) (c .guarded .result) n 0 (n + 3) 0 (2 ^ 22) (difference-more (l .result) n (2 ^ 22) (l .ensures)) (difference-more (u .result) (n + 3) (2 ^ 22) (u .ensures)) (order n) (c .guarded .ensures)
+    (lies-of (l .result) (u .result) (c .guarded .result) n 0 (n + 3) 0 (2 ^ 22) (difference-more (l .result) n (2 ^ 22) (l .ensures .0)) (difference-more (u .result) (n + 3) (2 ^ 22) (u .ensures .0)) (order n) (c .guarded .ensures .0), rw (c .guarded .ensures .1, l .ensures .1, u .ensures .1))
 
 pub tested-above-spec : {M : Type 1} → statement M
 tested-above-spec = tie.close (tie.spec cast-parts parts-requires add-parts cast-parts-2 parts-requires-2 guarded-requires returns)

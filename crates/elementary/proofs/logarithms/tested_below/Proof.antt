@@ -5,6 +5,7 @@ use native.Mathlib.Omega.{arith}
 use borrow.Author.Needs.{needs}
 use lib.Ieee.{neg}
 use Rattle.elementary.specs.Inside.Fixed.{IsDifference}
+use Rattle.elementary.specs.Inside.LogarithmValues.{testedBelow}
 use Rattle.elementary.proofs.fixed.Exactly.{negated}
 use Rattle.elementary.proofs.fixed.Order.{difference-less, lies-of}
 use Rattle.elementary.proofs.logarithms.tested_below.Statement.{statement}
@@ -35,14 +36,17 @@ order : (n : ℕ) → 0 + (n - 1) ≤ 0 + (n + 3)
 order n = omega arith
 
 returns : tie.Need-returns
+unfolding testedBelow
 returns c =
     let n = c .before .before .before .before .args .n in
     let l = c .before .before .before .parts in
-    let u = c .before .parts2 in
-    lies-of (neg (l .result)) (neg (u .result)) (c .guarded .result) 0 (n + 3) 0 (n - 1) (2 ^ 22)
-    (difference-less (neg (l .result)) (n + 3) (2 ^ 22) (negated (l .result) (n + 3) (2 ^ 22) (l .ensures)))
-    (subst (λ (k : ℕ). IsDifference (neg (u .result)) 0 k (2 ^ 22)) (c .before .before .one-less .ensures) (difference-less (neg (u .result)) (c .before .before .one-less .result) (2 ^ 22) (negated (u .result) (c .before .before .one-less .result) (2 ^ 22) (u .ensures))))
-    (order n) (c .guarded .ensures)
+    let u = c .before .parts2 in (
+      lies-of (neg (l .result)) (neg (u .result)) (c .guarded .result) 0 (n + 3) 0 (n - 1) (2 ^ 22)
+          (difference-less (neg (l .result)) (n + 3) (2 ^ 22) (negated (l .result) (n + 3) (2 ^ 22) (l .ensures .0)))
+          (subst (λ (k : ℕ). IsDifference (neg (u .result)) 0 k (2 ^ 22)) (c .before .before .one-less .ensures) (difference-less (neg (u .result)) (c .before .before .one-less .result) (2 ^ 22) (negated (u .result) (c .before .before .one-less .result) (2 ^ 22) (u .ensures .0))))
+          (order n) (c .guarded .ensures .0),
+      rw (c .guarded .ensures .1, l .ensures .1, u .ensures .1, c .before .before .one-less .ensures),
+    )
 
 pub tested-below-spec : {M : Type 1} → statement M
 tested-below-spec = tie.close (tie.spec add-parts cast-parts parts-requires one-less-requires cast-parts-2 parts-requires-2 guarded-requires returns)

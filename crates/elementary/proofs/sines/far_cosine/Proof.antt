@@ -6,6 +6,7 @@ use native.Mathlib.Omega.{arith}
 use lib.Ieee.Positive.{num, den, den-pos}
 use borrow.Author.Needs.{needs}
 use Rattle.elementary.specs.Series.{east, west, part, term}
+use Rattle.elementary.specs.Inside.SineValues as SineValues
 use Rattle.elementary.proofs.circle.Follows.{whole-circle}
 use Rattle.elementary.proofs.sines.Doubles.{within-of}
 use Rattle.elementary.proofs.sines.Range.{positive-of, at-most}
@@ -22,20 +23,23 @@ guess-requires : tie.Need-guess-requires
 guess-requires c κs = search needs
 
 tested-requires : tie.Need-tested-requires
-tested-requires c κs = small (c .before .circle .result .c) (c .before .circle .ensures .1 .0)
+tested-requires c κs = small (c .before .circle .result .c) (c .before .circle .ensures .1 .0 .0)
   where
     small : (n : ℕ) → n ≤ 9 * 2 ^ 60 → n / 2 ^ 11 + 1024 < 2 ^ 53
     small n h = omega arith
 
 returns : tie.Need-returns
+unfolding SineValues.farCosine
 returns c =
     let s = c .before .before .before .before in
     let x = s .args .x in
     let y = c .before .before .before .scaled .result in
-    let p = c .before .before .circle .result in
-    λ n l.
-    within-of (c .tested .result) (p .c) (part (term (num x) (den x) n) n east) (part (term (num x) (den x) n) n west) (term (num x) (den x) n 0) (p .cn) (c .tested .ensures)
-    (whole-circle y (p .cn) (p .c) (p .sn) (p .s) (c .before .before .circle .ensures .0) (num x) (den x) n (den-pos x) (at-most x (s .pre .1) (positive-of x (s .pre .0) (s .pre .1))) (le-of-eq (c .before .before .before .scaled .ensures .1)) (le-trans (le-of-eq (sym (c .before .before .before .scaled .ensures .1))) (mul-le-mul-right (den x) (le-suc y))) l .cosine)
+    let p = c .before .before .circle .result in (
+      λ n l.
+          within-of (c .tested .result) (p .c) (part (term (num x) (den x) n) n east) (part (term (num x) (den x) n) n west) (term (num x) (den x) n 0) (p .cn) (c .tested .ensures .0)
+          (whole-circle y (p .cn) (p .c) (p .sn) (p .s) (c .before .before .circle .ensures .0) (num x) (den x) n (den-pos x) (at-most x (s .pre .1) (positive-of x (s .pre .0) (s .pre .1))) (le-of-eq (c .before .before .before .scaled .ensures .0 .1)) (le-trans (le-of-eq (sym (c .before .before .before .scaled .ensures .0 .1))) (mul-le-mul-right (den x) (le-suc y))) l .cosine),
+      rw (c .tested .ensures .1, c .before .guess .ensures, c .before .before .circle .ensures .1 .1, c .before .before .before .scaled .ensures .1),
+    )
 
 pub far-cosine-spec : {M : Type 1} → statement M
 far-cosine-spec = tie.close (tie.spec scaled-requires circle-requires guess-requires tested-requires returns)

@@ -5,17 +5,18 @@ use lib.IntN.{pos, negsuc}
 use lib.Ieee.{ofBits}
 use lib.Ieee.Positive.{num, den, den-pos}
 use borrow.Author.Needs.{needs}
+use Rattle.elementary.specs.Inside.SineValues as SineValues
 use Rattle.elementary.proofs.small.Low.{one-is}
 use Rattle.elementary.proofs.sines.Range.{tiny-of, from-of, clash}
 use Rattle.elementary.proofs.sines.ranged_cosine.Statement.{statement}
 use Rattle.elementary.proofs.sines.ranged_cosine.Tie as tie
 
 returns : tie.Need-returns
-unfolding ofBits
+unfolding ofBits SineValues.rangedCosine
 returns c =
     let x = c .before .args .x in
     let t = subst T (sym (c .if1 .taken)) tt in
-    (λ n l. one-is (num x) (den x) n (den-pos x) (tiny-of x (c .before .pre .0) t) l, λ k. refl)
+    (λ n l. one-is (num x) (den x) n (den-pos x) (tiny-of x (c .before .pre .0) t) l, (λ k. refl, rw (c .if1 .taken)))
 
 guess-requires : tie.Need-guess-requires
 guess-requires c κs = search needs
@@ -25,16 +26,16 @@ unfolding ofBits
 low-cosine-requires c κs = (from-of (c .before .before .before .args .x) 0 (negsuc 26) (c .before .before .before .pre .0) (c .before .before .if1 .left), subst T (sym (c .before .if2 .taken)) tt)
 
 returns-2 : tie.Need-returns-2
-unfolding ofBits
-returns-2 c = (c .low-cosine .ensures, λ k. absurd (clash _ (c .before .before .before .if1 .left) k))
+unfolding ofBits SineValues.rangedCosine
+returns-2 c = (c .low-cosine .ensures .0, (λ k. absurd (clash _ (c .before .before .before .if1 .left) k), rw (c .before .before .before .if1 .left, c .before .before .if2 .taken, c .low-cosine .ensures .1, c .before .guess .ensures)))
 
 far-cosine-requires : tie.Need-far-cosine-requires
 unfolding ofBits
 far-cosine-requires c κs = (from-of (c .before .before .args .x) 0 (pos 0) (c .before .before .pre .0) (c .if2 .left), c .before .before .pre .1)
 
 returns-3 : tie.Need-returns-3
-unfolding ofBits
-returns-3 c = (c .far-cosine .ensures, λ k. absurd (clash _ (c .before .before .if1 .left) k))
+unfolding ofBits SineValues.rangedCosine
+returns-3 c = (c .far-cosine .ensures .0, (λ k. absurd (clash _ (c .before .before .if1 .left) k), rw (c .before .before .if1 .left, c .before .if2 .left, c .far-cosine .ensures .1)))
 
 pub ranged-cosine-spec : {M : Type 1} → statement M
 ranged-cosine-spec = tie.close (tie.spec returns guess-requires low-cosine-requires returns-2 far-cosine-requires returns-3)

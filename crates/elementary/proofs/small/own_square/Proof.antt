@@ -3,6 +3,7 @@ use Prim.Native.Nat.{ℕ, _*_, _/_, _^_, _≤_, _<_}
 use native.Mathlib.Nat.{div-le-self}
 use native.Mathlib.Omega.{arith}
 use borrow.Author.Needs.{needs}
+use Rattle.elementary.specs.Inside.SmallValues as SmallValues
 use Rattle.elementary.proofs.circle.Alternate.{is-square}
 use Rattle.elementary.proofs.small.own_square.Statement.{statement}
 use Rattle.elementary.proofs.small.own_square.Tie as tie
@@ -17,7 +18,8 @@ high-requires : tie.Need-high-requires
 high-requires c κs = (small (c .args .m) (c .args .m / 2 ^ c .args .k) (c .pre .0) (div-le-self (c .args .m) (2 ^ c .args .k)), small (c .args .m) (c .args .m / 2 ^ c .args .k) (c .pre .0) (div-le-self (c .args .m) (2 ^ c .args .k)))
 
 returns : tie.Need-returns
-returns c = is-square (c .before .args .m) (c .before .args .k) (c .high .result) (c .before .pre .0) (c .high .ensures)
+unfolding SmallValues.ownSquare
+returns c = (is-square (c .before .args .m) (c .before .args .k) (c .high .result) (c .before .pre .0) (c .high .ensures .0), c .high .ensures .1)
 
 pub own-square-spec : {M : Type 1} → statement M
 own-square-spec = tie.close (tie.spec shr-y high-requires returns)

@@ -10,6 +10,7 @@ use lib.IntN.{pos}
 use lib.Ieee.{binary64, ofInt, inFloat}
 use lib.Ieee.Exact.{HasValue}
 use borrow.Author.Needs.{needs}
+use Rattle.elementary.specs.Inside.SmallValues as SmallValues
 use Rattle.elementary.proofs.fixed.Exactly.{whole, over-power}
 use Rattle.elementary.proofs.small.placed.Statement.{statement}
 use Rattle.elementary.proofs.small.placed.Tie as tie
@@ -42,12 +43,15 @@ under : (k : ℕ) → k ≤ 26 → 52 + (k + 1) ≤ 1022
 under k h = omega arith
 
 returns : tie.Need-returns
+unfolding SmallValues.placed
 returns c =
     let m = c .before .before .args .m in
     let k = c .before .before .args .k in
-    let h = c .before .before .pre .1 in
-    over-power (c .before .parts .result) (ofInt binary64 (pos _)) m 52 (k + 1) (c .before .before .pre .0) (under k h) (c .before .parts .ensures)
-    (subst (λ (p : ℕ). HasValue (ofInt binary64 (pos p)) false (2 ^ (k + 1)) 1) (sym (power-is k h)) (whole (2 ^ (k + 1)) (lt-of-le-of-lt (power-small k h) (leb→le (suc (2 ^ 27)) (2 ^ 53) tt))))
+    let h = c .before .before .pre .1 in (
+      over-power (c .before .parts .result) (ofInt binary64 (pos _)) m 52 (k + 1) (c .before .before .pre .0) (under k h) (c .before .parts .ensures .0)
+          (subst (λ (p : ℕ). HasValue (ofInt binary64 (pos p)) false (2 ^ (k + 1)) 1) (sym (power-is k h)) (whole (2 ^ (k + 1)) (lt-of-le-of-lt (power-small k h) (leb→le (suc (2 ^ 27)) (2 ^ 53) tt)))),
+      rw (c .before .parts .ensures .1, power-is k h),
+    )
 
 pub placed-spec : {M : Type 1} → statement M
 placed-spec = tie.close (tie.spec parts-requires add-result shl-result int-to-float-result returns)

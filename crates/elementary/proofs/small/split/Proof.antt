@@ -3,7 +3,8 @@ use Prim.Native.Nat.{_-_, _*_, _^_, _%_, _≤_}
 use lib.Dec.{T}
 use lib.Ieee.Positive.{num, den, den-pos, positive}
 use Rattle.elementary.specs.Inside.Small.{IsSplit}
-use Rattle.elementary.proofs.sines.Range.{low-positive, over-zero, below-one, not-tiny, split-of}
+use Rattle.elementary.specs.Inside.SmallValues as SmallValues
+use Rattle.elementary.proofs.sines.Range.{low-positive, over-zero, below-one, not-tiny, shifted, split-of}
 use Rattle.elementary.proofs.small.split.Statement.{statement}
 use Rattle.elementary.proofs.small.split.Tie as tie
 
@@ -15,7 +16,7 @@ facts c =
     let x = c .before .args .x in
     let m = c .unpack .result .m in
     let e = c .unpack .result .e in
-    split-of (num x) (den x) m e (den-pos x) (below-one x (over-zero x (above (c .before))) (c .before .pre .1)) (not-tiny x (c .before .pre .0) (above (c .before))) (c .unpack .ensures .least) (c .unpack .ensures .most) (c .unpack .ensures .value)
+    split-of (num x) (den x) m e (den-pos x) (below-one x (over-zero x (above (c .before))) (c .before .pre .1)) (not-tiny x (c .before .pre .0) (above (c .before))) (c .unpack .ensures .0 .least) (c .unpack .ensures .0 .most) (c .unpack .ensures .0 .value)
 
 unpack-requires : tie.Need-unpack-requires
 unpack-requires c κs = above c
@@ -24,7 +25,8 @@ sub-t6 : tie.Need-sub-t6
 sub-t6 c = facts c .0
 
 returns : tie.Need-returns
-returns c = facts c .1
+unfolding SmallValues.split
+returns c = (facts c .1, rw (← c .unpack .ensures .1, shifted (c .unpack .result .m) (c .unpack .ensures .0 .most)))
 
 pub split-spec : {M : Type 1} → statement M
 split-spec = tie.close (tie.spec unpack-requires sub-t6 returns)

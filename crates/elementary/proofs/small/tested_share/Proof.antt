@@ -8,6 +8,7 @@ use lib.Ieee.{Float}
 use lib.Ieee.Positive.{den}
 use Rattle.elementary.specs.Within.{less}
 use Rattle.elementary.specs.Inside.Fixed.{IsDifference, Lies}
+use Rattle.elementary.specs.Inside.SmallValues as SmallValues
 use Rattle.elementary.proofs.fixed.Order.{difference-more, lies-of}
 use Rattle.elementary.proofs.small.tested_share.Statement.{statement}
 use Rattle.elementary.proofs.small.tested_share.Tie as tie
@@ -25,7 +26,7 @@ upper-requires : tie.Need-upper-requires
 upper-requires c κs = c .before .before .pre .0
 
 placed-requires-2 : tie.Need-placed-requires-2
-placed-requires-2 c κs = (c .upper .ensures .2, c .before .before .before .pre .1)
+placed-requires-2 c κs = (c .upper .ensures .0 .2, c .before .before .before .pre .1)
 
 guarded-requires : tie.Need-guarded-requires
 guarded-requires c κs = search needs
@@ -38,17 +39,20 @@ order : (n u : ℕ) → n ≤ u → n - 1024 + 0 ≤ u + 0
 order n u h = omega arith
 
 returns : tie.Need-returns
+unfolding SmallValues.testedShare
 returns c =
     let a = c .before .before .before .before .before .args in
     let l = c .before .before .before .placed in
     let e = c .before .before .before .before .lower in
     let u = c .before .before .upper in
     let h = c .before .placed2 in
-    let C = 2 ^ 52 * 2 ^ (a .k + 1) in
-    wider (c .guarded .result) (a .n - 1024) (u .result) (a .n + 1024) C (u .ensures .1)
-    (lies-of (l .result) (h .result) (c .guarded .result) (a .n - 1024) 0 (u .result) 0 C
-    (subst (λ (z : ℕ). IsDifference (l .result) z 0 C) (e .ensures) (difference-more (l .result) (e .result) C (l .ensures)))
-    (difference-more (h .result) (u .result) C (h .ensures)) (order (a .n) (u .result) (u .ensures .0)) (c .guarded .ensures))
+    let C = 2 ^ 52 * 2 ^ (a .k + 1) in (
+      wider (c .guarded .result) (a .n - 1024) (u .result) (a .n + 1024) C (u .ensures .0 .1)
+          (lies-of (l .result) (h .result) (c .guarded .result) (a .n - 1024) 0 (u .result) 0 C
+          (subst (λ (z : ℕ). IsDifference (l .result) z 0 C) (e .ensures) (difference-more (l .result) (e .result) C (l .ensures .0)))
+          (difference-more (h .result) (u .result) C (h .ensures .0)) (order (a .n) (u .result) (u .ensures .0 .0)) (c .guarded .ensures .0)),
+      rw (c .guarded .ensures .1, h .ensures .1, u .ensures .1, l .ensures .1, e .ensures),
+    )
 
 pub tested-share-spec : {M : Type 1} → statement M
 tested-share-spec = tie.close (tie.spec lower-requires placed-requires upper-requires placed-requires-2 guarded-requires returns)

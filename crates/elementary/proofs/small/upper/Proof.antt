@@ -1,6 +1,8 @@
 -- `small::upper` meets its contract. Assumes nothing.
 use native.Mathlib.Omega.{arith}
 use borrow.Author.Needs.{needs}
+use borrow.Author.Tests.{lt-ltb, le-ltb}
+use Rattle.elementary.specs.Inside.SmallValues as SmallValues
 use Rattle.elementary.proofs.small.upper.Statement.{statement}
 use Rattle.elementary.proofs.small.upper.Tie as tie
 
@@ -8,10 +10,12 @@ add-result : tie.Need-add-result
 add-result c = search needs
 
 returns : tie.Need-returns
-returns c = (omega (arith, c .if1 .taken), omega (arith, c .if1 .taken), omega (arith, c .if1 .taken))
+unfolding SmallValues.upper
+returns c = ((omega (arith, c .if1 .taken), omega (arith, c .if1 .taken), omega (arith, c .if1 .taken)), rw (lt-ltb _ _ (c .if1 .taken)))
 
 returns-2 : tie.Need-returns-2
-returns-2 c = (omega (arith, c .before .pre, c .if1 .left), omega (arith, c .before .pre, c .if1 .left), omega arith)
+unfolding SmallValues.upper
+returns-2 c = ((omega (arith, c .before .pre, c .if1 .left), omega (arith, c .before .pre, c .if1 .left), omega arith), rw (le-ltb _ _ (c .if1 .left)))
 
 pub upper-spec : {M : Type 1} → statement M
 upper-spec = tie.close (tie.spec add-result returns returns-2)
