@@ -1,7 +1,8 @@
 //! The oracle's own checks, which need no program of ours.
 
-use oracle::answer::{Build, aswfa, record_lines, stream_lines};
-use oracle::reading::refusal;
+use oracle::answer::{Build, aswfa, first_kind, msta1, msta2, record_lines, stream_lines};
+use oracle::orders::Search;
+use oracle::reading::{highest_order, order_search, refusal};
 use oracle::record::{Record, Request, hex, same};
 
 use crate::known::{Input, Known, matches};
@@ -12,6 +13,8 @@ pub struct OwnChecks {
     pub known: Tally,
     pub rows: Tally,
     pub builds: Tally,
+    pub disc: Tally,
+    pub orders: Tally,
 }
 
 impl OwnChecks {
@@ -21,11 +24,20 @@ impl OwnChecks {
             known: Tally::new("known answers of traps.txt"),
             rows: Tally::new("rows: reading and segv agree"),
             builds: Tally::new("both builds agree at x = 0, -0, 1, -1"),
+            disc: Tally::new("first kind: they agree at x = 0, -0"),
+            orders: Tally::new("orders: reading, msta1, msta2 agree"),
         }
     }
 
-    pub fn tallies(&self) -> [&Tally; 4] {
-        [&self.example, &self.known, &self.rows, &self.builds]
+    pub fn tallies(&self) -> [&Tally; 6] {
+        [
+            &self.example,
+            &self.known,
+            &self.rows,
+            &self.builds,
+            &self.disc,
+            &self.orders,
+        ]
     }
 
     pub fn check_example(&mut self) {
@@ -64,6 +76,10 @@ impl OwnChecks {
         }
         match Request::of_operation(record.operation) {
             Some(Request::Angular(_)) => self.check_builds(record),
+            Some(Request::FirstKind) => {
+                self.check_disc(record);
+                self.check_orders(record);
+            }
             Some(request) if request.is_row() && !lines.starts_with('R') => {
                 self.rows.count(!lines.starts_with('X'), || {
                     format!("{record}\n    {}", lines.lines().next().unwrap_or_default())
@@ -93,6 +109,37 @@ impl OwnChecks {
                 words(Build::PowerRule),
                 words(Build::Unaltered)
             )
+        });
+    }
+
+    /// On the disc every power is exact, and no elementary function is called.
+    fn check_disc(&mut self, record: &Record) {
+        for x in [0.0, -0.0] {
+            let record = Record { x, ..*record };
+            let ruled = first_kind(Build::PowerRule, &record);
+            let unaltered = first_kind(Build::Unaltered, &record);
+            let agree = (0..2).all(|at| same(ruled[at], unaltered[at]));
+            self.disc.count(agree, || {
+                let [ruled, unaltered] = [ruled, unaltered].map(|pair| pair.map(hex).join(" "));
+                format!("{record}\n    power rule: {ruled}\n    unaltered:  {unaltered}")
+            });
+        }
+    }
+
+    /// Counts nothing where no order is searched for.
+    fn check_orders(&mut self, record: &Record) {
+        let Some(Ok(Search { first, second })) = order_search(record) else {
+            return;
+        };
+        let (x, n) = (
+            record.c * record.x,
+            highest_order(record.m, record.n, record.c),
+        );
+        let theirs = (msta1(x, 200), second.as_ref().map(|_| msta2(x, n, 15)));
+        let agree = first.last() == Some(&theirs.0)
+            && second.as_ref().map(|orders| orders[orders.len() - 1] + 10) == theirs.1;
+        self.orders.count(agree, || {
+            format!("{record}\n    reading: {first:?} {second:?}\n    Rust:    {theirs:?}")
         });
     }
 }

@@ -37,7 +37,7 @@ pub fn damaged_streams(generator: &mut Generator, operations: &[u8]) -> Vec<Vec<
 /// sound record, to a cut one and to a wrong mark.
 pub fn streams_of_other_operations(generator: &mut Generator, operations: &[u8]) -> Vec<Vec<u8>> {
     let mut streams = Vec::new();
-    for operation in [0, 8, 255] {
+    for operation in [0, 9, 255] {
         let mut other = damaged_record(generator, MARK).to_vec();
         other[MARK.len()] = operation;
         let sound = with_records_before(generator, operations, 1, Vec::new());
@@ -52,7 +52,7 @@ pub fn streams_of_other_operations(generator: &mut Generator, operations: &[u8])
 }
 
 fn damaged_record(generator: &mut Generator, mark: [u8; 2]) -> [u8; LENGTH] {
-    let mut bytes = generator.cheap_record(&[1, 2, 3, 4, 5, 6, 7]).to_bytes();
+    let mut bytes = generator.cheap_record(&[1, 2, 3, 4, 5, 6, 7, 8]).to_bytes();
     bytes[..MARK.len()].copy_from_slice(&mark);
     bytes
 }

@@ -1,12 +1,23 @@
 //! Seeded records. The README's table gives the distribution that the weights here make.
 
 use oracle::answer::segv;
-use oracle::reading::{coefficient_refusal, half_offset_plus_c, matrix_terms, needed_allowance};
+use oracle::reading::{
+    coefficient_refusal, half_offset_plus_c, matrix_terms, needed_allowance, off_disc_refused,
+};
 use oracle::record::{Record, Request};
 
 use crate::random::Random;
 
-const OPERATIONS: [(u64, u8); 7] = [(13, 1), (13, 2), (24, 3), (24, 4), (14, 5), (6, 6), (6, 7)];
+const OPERATIONS: [(u64, u8); 8] = [
+    (11, 1),
+    (11, 2),
+    (20, 3),
+    (20, 4),
+    (12, 5),
+    (5, 6),
+    (5, 7),
+    (16, 8),
+];
 
 /// How large a mode is: this bounds the cost of a record.
 #[derive(Clone, Copy)]
@@ -79,6 +90,42 @@ const VALUES: [(u64, Value); 9] = [
     (5, Value::AnyFinite),
 ];
 
+/// An x of operation 8.
+#[derive(Clone, Copy)]
+enum OffDisc {
+    Zero,
+    Subnormal,
+    VeryTiny,
+    /// About where x to the third, x to the second and their reciprocals leave the doubles.
+    Tiny,
+    /// c x beside 1e-100, below which no Bessel order is searched for.
+    LeastSearched,
+    SmallProduct,
+    Small,
+    AroundOne,
+    Whole,
+    /// c x uniform up to its limit.
+    Product,
+    /// c x beside its limit.
+    ProductLimit,
+    Large,
+}
+
+const OFF_DISC: [(u64, OffDisc); 12] = [
+    (8, OffDisc::Zero),
+    (3, OffDisc::Subnormal),
+    (2, OffDisc::VeryTiny),
+    (8, OffDisc::Tiny),
+    (4, OffDisc::LeastSearched),
+    (9, OffDisc::SmallProduct),
+    (10, OffDisc::Small),
+    (27, OffDisc::AroundOne),
+    (6, OffDisc::Whole),
+    (13, OffDisc::Product),
+    (3, OffDisc::ProductLimit),
+    (7, OffDisc::Large),
+];
+
 #[derive(Clone, Copy)]
 enum Spoiling {
     Operation,
@@ -130,6 +177,11 @@ const SMALL_C: Mix = Mix {
     spoiled_percent: 0,
 };
 
+const FIRST_KIND: Mix = Mix {
+    operations: &[(1, 8)],
+    ..ALL
+};
+
 pub struct Generator {
     random: Random,
     mix: Mix,
@@ -146,6 +198,10 @@ impl Generator {
 
     pub fn with_small_c(seed: u64) -> Generator {
         Generator::of_mix(seed, SMALL_C)
+    }
+
+    pub fn of_first_kind(seed: u64) -> Generator {
+        Generator::of_mix(seed, FIRST_KIND)
     }
 
     fn of_mix(seed: u64, mix: Mix) -> Generator {
@@ -169,7 +225,7 @@ impl Generator {
         record
     }
 
-    /// A record that no refusal from 3 to 8 turns back.
+    /// A record that no refusal from 3 to 8 turns back, nor 11.
     fn sound_record(&mut self) -> Record {
         let operation = self.random.weighted(self.mix.operations);
         let size = self.random.weighted(self.mix.sizes);
@@ -183,7 +239,9 @@ impl Generator {
     }
 
     fn sound_record_of(&mut self, operation: u8, size: Size) -> Record {
-        let request = Request::of_operation(operation).expect("an operation from 1 to 7");
+        let request = Request::of_operation(operation).expect("an operation from 1 to 8");
+        let first_kind = request == Request::FirstKind;
+        let off_disc = first_kind.then(|| self.random.weighted(&OFF_DISC));
         let mut record = Record {
             operation,
             m: 0,
@@ -195,7 +253,11 @@ impl Generator {
         };
         loop {
             self.choose_mode(&mut record, request, size);
-            if coefficient_refusal(&record, request).is_none() {
+            if let Some(off_disc) = off_disc {
+                record.x = off_disc_argument(&mut self.random, off_disc, record.c);
+            }
+            let refused = coefficient_refusal(&record, request).is_some();
+            if !refused && !off_disc_refused(&record, request) {
                 break;
             }
         }
@@ -282,7 +344,8 @@ impl Generator {
         let random = &mut self.random;
         match request {
             Request::Row(_) | Request::DlmfRow(_) => random.any_double(),
-            Request::Radial => random.pick(&[0.0, -0.0]),
+            // That of operation 8 is chosen with its c.
+            Request::Radial | Request::FirstKind => random.pick(&[0.0, -0.0]),
             Request::Angular(_) => match random.below(100) {
                 0..20 => random.pick(&[0.0, -0.0, 1.0, -1.0]),
                 20..27 => random.sign() * beside(1.0, -(random.between(1, 40) as i64)),
@@ -318,7 +381,7 @@ impl Generator {
         let random = &mut self.random;
         let request = Request::of_operation(record.operation);
         match random.weighted(&SPOILINGS) {
-            Spoiling::Operation => record.operation = random.pick(&[0, 8, 9, 83, 128, 255]),
+            Spoiling::Operation => record.operation = random.pick(&[0, 9, 10, 83, 128, 255]),
             Spoiling::Mode => (record.m, record.n) = faulty_mode(random, record.m),
             Spoiling::ParameterSign => record.c = faulty_parameter(random),
             Spoiling::ParameterLimit => {
@@ -327,6 +390,9 @@ impl Generator {
                 }
             }
             Spoiling::Value => record.cv = random.pick(&[f64::NAN, f64::INFINITY, -f64::INFINITY]),
+            Spoiling::Argument if request == Some(Request::FirstKind) => {
+                record.x = faulty_off_disc(random, record.c)
+            }
             Spoiling::Argument => record.x = faulty_argument(random),
             Spoiling::Allowance => record.allowance = random.pick(&[0, 0, 1, 2, 40, 45, 50, 55]),
         }
@@ -337,14 +403,57 @@ fn limit(request: Request) -> f64 {
     if request.is_row() { 291.0 } else { 175.0 }
 }
 
-/// The least c that refusal 6 turns back in exact numbers, at least 1.
+/// The least c that refusal 6 turns back in exact numbers, or refusal 11 off the disc, at least 1.
 fn limiting_parameter(record: &Record, request: Request) -> f64 {
-    let offset = f64::from(record.n.saturating_sub(record.m));
+    let (m, offset) = (
+        f64::from(record.m),
+        f64::from(record.n.saturating_sub(record.m)),
+    );
     let mut limit = limit(request);
-    if request == Request::Radial {
-        limit = limit.min(176.0 - f64::from(record.m));
+    if matches!(request, Request::Radial | Request::FirstKind) {
+        limit = limit.min(176.0 - m);
+    }
+    if request == Request::FirstKind && record.x != 0.0 {
+        // 2N + m is 252 or 253 from there on.
+        limit = limit.min(((203.0 - m) / 2.0).floor());
     }
     (limit - offset / 2.0).max(1.0)
+}
+
+/// The greatest argument of Bessel functions.
+const GREATEST_PRODUCT: f64 = 200.0;
+
+/// An x of operation 8, finite and not below zero; c x may be above its limit by rounding.
+fn off_disc_argument(random: &mut Random, argument: OffDisc, c: f64) -> f64 {
+    let over_c = |product: f64| (product / if c > 0.0 { c } else { 1.0 }).min(1e300);
+    match argument {
+        OffDisc::Zero => random.pick(&[0.0, -0.0]),
+        OffDisc::Subnormal => {
+            let any = 1 + (random.bits() >> 12);
+            f64::from_bits(random.pick(&[1, 2, any, any]))
+        }
+        OffDisc::VeryTiny => random.log_uniform(1e-307, 1e-170),
+        OffDisc::Tiny => match random.below(4) {
+            0 => random.log_uniform(1e-170, 1e-150),
+            1 => random.log_uniform(1e-112, 1e-100),
+            _ => random.log_uniform(1e-165, 1e-95),
+        },
+        OffDisc::LeastSearched => match random.below(3) {
+            0 => over_c(1e-100),
+            1 => beside(over_c(1e-100), random.pick(&[-2, -1, 1, 2])),
+            _ => over_c(random.log_uniform(1e-102, 1e-98)),
+        },
+        OffDisc::SmallProduct => over_c(random.log_uniform(1e-100, 1e-2)),
+        OffDisc::Small => random.log_uniform(1e-8, 1e-1),
+        OffDisc::AroundOne => random.log_uniform(1e-1, 1e1),
+        OffDisc::Whole => random.pick(&[0.25, 0.5, 1.0, 1.5, 2.0, 3.0, 4.0, 10.0]),
+        OffDisc::Product => over_c(GREATEST_PRODUCT * random.unit()),
+        OffDisc::ProductLimit => beside(
+            over_c(GREATEST_PRODUCT),
+            random.pick(&[-3, -2, -1, 0, 0, 1]),
+        ),
+        OffDisc::Large => random.log_uniform(over_c(1.0), over_c(GREATEST_PRODUCT)),
+    }
 }
 
 /// The double that stands so many places above or below.
@@ -392,7 +501,11 @@ fn faulty_parameter(random: &mut Random) -> f64 {
 }
 
 fn excessive_parameter(random: &mut Random, record: &Record, request: Request) -> f64 {
-    let c = limiting_parameter(record, request);
+    let c = match request {
+        // The limit of refusal 6 alone.
+        Request::FirstKind if random.chance(40) => limiting_parameter(record, Request::Radial),
+        _ => limiting_parameter(record, request),
+    };
     match random.below(8) {
         0..3 => c,
         3..5 => beside(c, random.pick(&[-1, 1])),
@@ -410,4 +523,18 @@ fn faulty_argument(random: &mut Random) -> f64 {
         _ => random.any_double(),
     };
     random.sign() * size
+}
+
+/// For operation 8, with c x beside its limit and beyond it among them.
+fn faulty_off_disc(random: &mut Random, c: f64) -> f64 {
+    let limit = GREATEST_PRODUCT / c;
+    match random.below(8) {
+        0 => f64::from_bits(0x7ff0_0000_0000_0001 | random.bits()),
+        1 => random.pick(&[f64::INFINITY, -f64::INFINITY]),
+        2 => random.pick(&[-5e-324, -f64::MIN_POSITIVE, -1e-100, -0.5, -1.0, f64::MIN]),
+        3 => -random.log_uniform(1e-300, 1e300),
+        4..6 => beside(limit, random.pick(&[-1, 0, 1, 1, 2, 3])),
+        6 => limit * (1.0 + random.log_uniform(1e-15, 1e2)),
+        _ => random.pick(&[1e3, 1e10, 1e300, f64::MAX]),
+    }
 }

@@ -24,7 +24,8 @@ use landed::{CLASSES, DAMAGED_STREAMS, any_landed, class_of, has_landed, landed_
 use program::Program;
 use tally::Tally;
 
-const USAGE: &str = "usage: compare [--records] [N] [SEED] [small-c] | compare --replay [N] [SEED]";
+const USAGE: &str = "usage: compare [--records] [N] [SEED] [small-c | first-kind] | \
+    compare --replay [N] [SEED]";
 const KNOWN_RECORDS: &str = "tests/oracle/traps.txt";
 /// Where the gate finds what it replays: one long stream, and many short ones.
 const REPLAY: &str = "crates/spheroidal";
@@ -43,9 +44,18 @@ const NOT_RUN: u8 = 2;
 struct Arguments {
     records: usize,
     seed: u64,
-    /// Fresh records are rows with small c alone.
-    small_c: bool,
+    fresh: Fresh,
     task: Task,
+}
+
+/// What the fresh records are.
+#[derive(Clone, Copy, PartialEq, Eq)]
+enum Fresh {
+    All,
+    /// Rows with small c alone.
+    SmallC,
+    /// Operation 8 alone.
+    FirstKind,
 }
 
 #[derive(Clone, Copy, PartialEq, Eq)]
@@ -78,11 +88,15 @@ fn arguments() -> Result<Arguments, String> {
     if task != Task::Compare {
         words.remove(0);
     }
-    let small_c = words.last().is_some_and(|word| word == "small-c");
-    if small_c {
+    let fresh = match words.last().map(String::as_str) {
+        Some("small-c") => Fresh::SmallC,
+        Some("first-kind") => Fresh::FirstKind,
+        _ => Fresh::All,
+    };
+    if fresh != Fresh::All {
         words.pop();
     }
-    if words.len() > 2 || (small_c && task == Task::Replay) {
+    if words.len() > 2 || (fresh != Fresh::All && task == Task::Replay) {
         return Err(USAGE.to_string());
     }
     let number = |at: usize, default: u64| match words.get(at) {
@@ -92,16 +106,16 @@ fn arguments() -> Result<Arguments, String> {
     Ok(Arguments {
         records: number(0, DEFAULT_RECORDS as u64)? as usize,
         seed: number(1, DEFAULT_SEED)?,
-        small_c,
+        fresh,
         task,
     })
 }
 
 fn run(arguments: Arguments) -> Result<ExitCode, String> {
-    let mut generator = if arguments.small_c {
-        Generator::with_small_c(arguments.seed)
-    } else {
-        Generator::new(arguments.seed)
+    let mut generator = match arguments.fresh {
+        Fresh::All => Generator::new(arguments.seed),
+        Fresh::SmallC => Generator::with_small_c(arguments.seed),
+        Fresh::FirstKind => Generator::of_first_kind(arguments.seed),
     };
     if arguments.task == Task::Records {
         return write_records(&mut generator, arguments.records);
@@ -206,6 +220,11 @@ struct Figures {
     z_lines: usize,
     /// `Z` lines with 1: too few of them would test nothing.
     substituted: usize,
+    g_lines: usize,
+    /// `G` lines whose value or derivative is a NaN, an infinity or zero.
+    special: usize,
+    refused_11: usize,
+    refused_12: usize,
 }
 
 impl Figures {
@@ -215,7 +234,21 @@ impl Figures {
             self.z_lines += 1;
             self.substituted += usize::from(line.ends_with(" 1"));
         }
+        for line in lines.lines().filter(|line| line.starts_with('G')) {
+            self.g_lines += 1;
+            self.special += usize::from(line.split(' ').skip(4).any(is_special));
+        }
+        self.refused_11 += usize::from(lines.starts_with('R') && lines.ends_with(" 11\n"));
+        self.refused_12 += usize::from(lines.starts_with('R') && lines.ends_with(" 12\n"));
     }
+}
+
+/// A NaN, an infinity or zero, as it is printed.
+fn is_special(word: &str) -> bool {
+    u64::from_str_radix(word, 16).is_ok_and(|bits| {
+        let value = f64::from_bits(bits);
+        !value.is_finite() || value == 0.0
+    })
 }
 
 impl Run {
@@ -263,10 +296,10 @@ impl Run {
 
     fn report(&self, arguments: &Arguments, fresh: &Figures) -> ExitCode {
         let Arguments { records, seed, .. } = arguments;
-        let what = if arguments.small_c {
-            "fresh rows with small c"
-        } else {
-            "fresh records"
+        let what = match arguments.fresh {
+            Fresh::All => "fresh records",
+            Fresh::SmallC => "fresh rows with small c",
+            Fresh::FirstKind => "fresh records of operation 8",
         };
         println!(
             "{records} {what} of seed {seed}, {} of them accepted",
@@ -275,6 +308,10 @@ impl Run {
         println!(
             "{} Z lines, {} of them with 1",
             fresh.z_lines, fresh.substituted
+        );
+        println!(
+            "{} G lines, {} of them with a NaN, an infinity or zero; {} refused 11, {} refused 12",
+            fresh.g_lines, fresh.special, fresh.refused_11, fresh.refused_12
         );
         println!("The oracle's own checks");
         self.own.tallies().iter().for_each(|tally| tally.print());

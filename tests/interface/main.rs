@@ -138,6 +138,7 @@ fn lines(record: &Record, request: Request) -> String {
         Request::Radial => spheroidal::radial(mode, cv, x).map(|Radial { first, second }| {
             format!("F 0 {m} {n} {} {}\n", pair_words(first), pair_words(second))
         }),
+        Request::FirstKind => unreachable!("the wrapper has no call for operation 8"),
     };
     answer.unwrap_or_else(|refusal| format!("R 0 {}\n", refusal.number()))
 }
@@ -209,6 +210,10 @@ impl Tallies {
         let Some(request) = Request::of_operation(record.operation) else {
             return;
         };
+        // The wrapper has no call for operation 8.
+        if request == Request::FirstKind {
+            return;
+        }
         let theirs = answer::record_lines(Build::PowerRule, 0, record);
         let ours = lines(record, request);
         self.answers.count(ours == theirs, || {
@@ -217,7 +222,9 @@ impl Tallies {
         match request {
             Request::Row(_) => self.compare_row_slices(record, kind_of(request)),
             Request::DlmfRow(_) => self.compare_dlmf_slices(record, kind_of(request)),
-            Request::Angular(_) | Request::Radial => self.compare_coefficients(record, request),
+            Request::Angular(_) | Request::Radial | Request::FirstKind => {
+                self.compare_coefficients(record, request)
+            }
         }
     }
 

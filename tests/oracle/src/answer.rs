@@ -4,12 +4,15 @@ use std::fmt::Write;
 
 use crate::reading;
 use crate::record::{Kind, LENGTH, MARK, Record, Request, hex, same};
-use crate::xsf::specfun::{power_rule, unaltered};
+use crate::xsf::specfun::{served, unaltered};
 
-/// Which build of `sphd.rs` gives the angular pair; all else is the same text in both.
+/// Which build gives the angular pair and the first kind of operation 8; all else is by the unaltered
+/// text.
 #[derive(Clone, Copy, Debug, PartialEq, Eq)]
 pub enum Build {
+    /// The Rust as it stands.
     Unaltered,
+    /// Powers by the power rule, and our sine, cosine and decimal logarithm in the Bessel functions.
     PowerRule,
 }
 
@@ -35,7 +38,7 @@ pub fn aswfa(build: Build, kind: Kind, record: &Record, x: f64) -> [f64; 2] {
     let [mut value, mut derivative] = [0.0; 2];
     let aswfa = match build {
         Build::Unaltered => unaltered::aswfa,
-        Build::PowerRule => power_rule::aswfa,
+        Build::PowerRule => served::aswfa,
     };
     aswfa(
         x,
@@ -57,6 +60,46 @@ pub fn rswfo(record: &Record) -> [f64; 4] {
     let Record { c, x, cv, .. } = *record;
     unaltered::rswfo(m, n, c, x, cv, 3, &mut r1f, &mut r1d, &mut r2f, &mut r2d);
     [r1f, r1d, r2f, r2d]
+}
+
+/// The oblate first kind by `rswfo` with kf = 1.
+pub fn first_kind(build: Build, record: &Record) -> [f64; 2] {
+    let (m, n) = (i32::from(record.m), i32::from(record.n));
+    let [mut r1f, mut r1d, mut r2f, mut r2d] = [0.0; 4];
+    let Record { c, x, cv, .. } = *record;
+    let rswfo = match build {
+        Build::Unaltered => unaltered::rswfo,
+        Build::PowerRule => served::rswfo,
+    };
+    rswfo(m, n, c, x, cv, 1, &mut r1f, &mut r1d, &mut r2f, &mut r2d);
+    [r1f, r1d]
+}
+
+/// The oblate first kind by `rmn1`, from expansion coefficients.
+pub fn rmn1(record: &Record, df: &[f64]) -> [f64; 2] {
+    let (m, n) = (i32::from(record.m), i32::from(record.n));
+    served::rmn1_pair(m, n, record.c, record.x, df)
+}
+
+/// Places for Bessel functions.
+pub type BesselPlaces = [f64; 252];
+
+/// Spherical Bessel functions up to order n and their derivatives by `sphj`, and the highest order
+/// computed; places above it are zero.
+pub fn sphj(x: f64, n: i32) -> (i32, BesselPlaces, BesselPlaces) {
+    let (mut highest, mut sj, mut dj) = (0, [0.0; 252], [0.0; 252]);
+    served::sphj(x, n, &mut highest, &mut sj, &mut dj);
+    (highest, sj, dj)
+}
+
+/// The order by `msta1`; with refusal 12 applying it may panic.
+pub fn msta1(x: f64, mp: i32) -> i32 {
+    served::msta1(x, mp)
+}
+
+/// The order by `msta2`; with refusal 12 applying it may panic.
+pub fn msta2(x: f64, n: i32, mp: i32) -> i32 {
+    served::msta2(x, n, mp)
 }
 
 /// The expansion coefficients by `sdmn`.
@@ -140,11 +183,12 @@ pub fn record_lines(build: Build, number: usize, record: &Record) -> String {
     }
     let _named = NameOnPanic(record);
     let Record { m, n, x, .. } = *record;
-    match Request::of_operation(record.operation).expect("an operation from 1 to 7") {
+    match Request::of_operation(record.operation).expect("an operation from 1 to 8") {
         Request::Row(kind) => row_lines(number, kind, record, v_and_z_lines),
         Request::DlmfRow(kind) => row_lines(number, kind, record, d_line),
         Request::Angular(kind) => mode_line('A', number, m, n, &aswfa(build, kind, record, x)),
         Request::Radial => mode_line('F', number, m, n, &rswfo(record)),
+        Request::FirstKind => mode_line('G', number, m, n, &first_kind(build, record)),
     }
 }
 

@@ -10,7 +10,8 @@ pub fn half_power(y: f64, k: u32) -> f64 {
     y.sqrt() * whole_power(y, k)
 }
 
-/// Stands in for `f64::powf` in `aswfa`, whose exponents are whole or half-odd and never negative.
+/// Stands in for `f64::powf` in `aswfa`, `rmn1` and `sckb`, whose exponents are whole or half-odd and
+/// never negative.
 pub fn powf(y: f64, exponent: f64) -> f64 {
     let whole = exponent.floor();
     if exponent == whole {

@@ -2,8 +2,9 @@
 //! the row by bisection.
 //!
 //! Written from the documents' words and not from `sphd.rs`, so that the two can be held against
-//! each other.
+//! each other. What refusal 12 asks for stands in `orders.rs`.
 
+use crate::orders::{self, OutOfRange, Search};
 use crate::record::{Kind, Record, Request};
 
 const LARGEST_ORDER: u16 = 199;
@@ -11,6 +12,11 @@ const LARGEST_OFFSET: u16 = 199;
 const ROW_LIMIT: f64 = 291.0;
 const COEFFICIENT_LIMIT: f64 = 175.0;
 const COEFFICIENT_PLACES: i32 = 200;
+/// Off the disc: the highest Bessel order that there is a place for, and the greatest argument.
+const GREATEST_BESSEL_ORDER: i32 = 251;
+const GREATEST_BESSEL_ARGUMENT: f64 = 200.0;
+/// Below it `sphj` searches for no order.
+const LEAST_SEARCHED_ARGUMENT: f64 = 1e-100;
 const ZERO_PARAMETER: f64 = 1e-10;
 const TOLERANCE: f64 = 1e-14;
 const PIVOT_SUBSTITUTE: f64 = 1e-30;
@@ -20,7 +26,12 @@ pub fn half_offset_plus_c(m: u16, n: u16, c: f64) -> f64 {
     f64::from(n - m) / 2.0 + c
 }
 
-/// Refusals 3 to 8, the first that applies.
+/// N: 25 + H truncated, for an H below the limits.
+pub fn terms(m: u16, n: u16, c: f64) -> i32 {
+    25 + half_offset_plus_c(m, n, c) as i32
+}
+
+/// Refusals 3 to 8, 11 and 12, the first that applies.
 ///
 /// Refusals 1 and 2 belong to the stream, 9 to the buffers of a library caller (a record lends
 /// none), 10 to the row.
@@ -28,7 +39,10 @@ pub fn refusal(record: &Record) -> Option<u8> {
     let Some(request) = Request::of_operation(record.operation) else {
         return Some(3);
     };
-    coefficient_refusal(record, request).or_else(|| x_refused(record.x, request).then_some(8))
+    coefficient_refusal(record, request)
+        .or_else(|| x_refused(record.x, request).then_some(8))
+        .or_else(|| off_disc_refused(record, request).then_some(11))
+        .or_else(|| matches!(order_search(record), Some(Err(_))).then_some(12))
 }
 
 /// Refusals 4 to 7, those that coefficients share with the angular pair.
@@ -53,8 +67,8 @@ fn too_large(m: u16, n: u16, c: f64, request: Request) -> bool {
         Request::Row(_) | Request::DlmfRow(_) => h >= ROW_LIMIT,
         Request::Angular(_) => h >= COEFFICIENT_LIMIT,
         // H is tested first: 25 + H truncated is a small number only below the limit.
-        Request::Radial => {
-            h >= COEFFICIENT_LIMIT || 25 + h as i32 + i32::from(m) > COEFFICIENT_PLACES
+        Request::Radial | Request::FirstKind => {
+            h >= COEFFICIENT_LIMIT || terms(m, n, c) + i32::from(m) > COEFFICIENT_PLACES
         }
     }
 }
@@ -64,7 +78,31 @@ fn x_refused(x: f64, request: Request) -> bool {
         Request::Row(_) | Request::DlmfRow(_) => false,
         Request::Angular(_) => x.is_nan() || x.abs() > 1.0,
         Request::Radial => x != 0.0,
+        Request::FirstKind => x.is_nan() || x.is_infinite() || x < 0.0,
     }
+}
+
+/// Refusal 11, for a record that none before it turns back.
+pub fn off_disc_refused(record: &Record, request: Request) -> bool {
+    let Record { m, n, c, x, .. } = *record;
+    request == Request::FirstKind
+        && x > 0.0
+        && (2 * terms(m, n, c) + i32::from(m) > GREATEST_BESSEL_ORDER
+            || c * x > GREATEST_BESSEL_ARGUMENT)
+}
+
+/// The search for a Bessel order in a record of operation 8 that no refusal to 11 turns back; none
+/// where `sphj` makes none. The order up to which it is asked for Bessel functions is by the limit of
+/// `rmn1`, which truncates (n - m)/2 and c apart.
+pub fn order_search(record: &Record) -> Option<Result<Search, OutOfRange>> {
+    let Record { m, n, c, x, .. } = *record;
+    let searched = record.operation == 8 && x > 0.0 && c * x >= LEAST_SEARCHED_ARGUMENT;
+    searched.then(|| orders::search(c * x, highest_order(m, n, c)))
+}
+
+/// The order up to which `rmn1` asks for Bessel functions.
+pub fn highest_order(m: u16, n: u16, c: f64) -> i32 {
+    2 * (25 + i32::from((n - m) / 2) + c as i32) + i32::from(m)
 }
 
 /// A characteristic value with the bracket that its stopping test used, its step number, and

@@ -30,11 +30,14 @@ pub enum Request {
     Row(Kind),
     DlmfRow(Kind),
     Angular(Kind),
+    /// Both oblate radial kinds on the disc.
     Radial,
+    /// The oblate radial function of the first kind, on the disc and off it.
+    FirstKind,
 }
 
 impl Request {
-    /// None where the operation is not 1 to 7.
+    /// None where the operation is not 1 to 8.
     pub fn of_operation(operation: u8) -> Option<Request> {
         match operation {
             1 => Some(Request::Row(Kind::Prolate)),
@@ -44,6 +47,7 @@ impl Request {
             5 => Some(Request::Radial),
             6 => Some(Request::DlmfRow(Kind::Prolate)),
             7 => Some(Request::DlmfRow(Kind::Oblate)),
+            8 => Some(Request::FirstKind),
             _ => None,
         }
     }
@@ -55,7 +59,7 @@ impl Request {
     pub fn kind(self) -> Kind {
         match self {
             Request::Row(kind) | Request::DlmfRow(kind) | Request::Angular(kind) => kind,
-            Request::Radial => Kind::Oblate,
+            Request::Radial | Request::FirstKind => Kind::Oblate,
         }
     }
 }

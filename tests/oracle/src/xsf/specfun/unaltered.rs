@@ -1,0 +1,16 @@
+//! `sphd.rs`, and `msta1`, `msta2` and `sphj` of `bessel.rs`, as they stand. tests/oracle/build writes
+//! both files.
+
+use super::{SPECFUN_INF, Status, lpmns, lqmns, sphy, try_zeroed};
+use bessel::sphj;
+
+#[allow(warnings)]
+#[path = "../../../../../target/oracle/unaltered/bessel.rs"]
+mod bessel;
+#[allow(warnings)]
+#[path = "../../../../../target/oracle/unaltered/sphd.rs"]
+mod sphd;
+
+pub(crate) use sphd::{
+    aswfa, cbk_places, kmn_factor, qstar_pair, rswfo, sckb_places, sdmn_places, segv,
+};
