@@ -2,6 +2,7 @@
 //! keeps what their contracts ask (crates/routines_c/src/lib.rt): a mode that document 01 accepts.
 
 pub type Places = [f64; 200];
+pub type BesselPlaces = [f64; 252];
 
 unsafe extern "C" {
     pub safe fn routines_sdmn(m: u32, n: u32, c: f64, cv: f64, kd: f64, df: &mut Places);
@@ -34,5 +35,23 @@ unsafe extern "C" {
         cv: f64,
         qt: f64,
         bk: &mut Places,
+    );
+    /// 0 where a trial order is not from 1 to 100,000, as in the next two.
+    pub safe fn routines_msta1(x: f64, mp: u32) -> u32;
+    pub safe fn routines_msta2(x: f64, n: u32, mp: u32) -> u32;
+    pub safe fn routines_sphj(
+        x: f64,
+        n: u32,
+        sj: &mut BesselPlaces,
+        dj: &mut BesselPlaces,
+    ) -> u32;
+    pub safe fn routines_rmn1(
+        df: &Places,
+        m: u32,
+        n: u32,
+        c: f64,
+        x: f64,
+        value: &mut f64,
+        derivative: &mut f64,
     );
 }

@@ -20,11 +20,14 @@ use std::process::ExitCode;
 use generator::Generator;
 use known::Input;
 use library::{
-    Places, routines_aswfa, routines_cbk, routines_kmn, routines_qstar, routines_sckb, routines_sdmn,
+    Places, routines_aswfa, routines_cbk, routines_kmn, routines_msta1, routines_msta2,
+    routines_qstar, routines_rmn1, routines_sckb, routines_sdmn, routines_sphj,
 };
 use oracle::answer::{self, Build};
-use oracle::reading::coefficient_refusal;
+use oracle::orders;
+use oracle::reading::{coefficient_refusal, highest_order, refusal};
 use oracle::record::{Kind, Record, Request, hex, same};
+use random::Random;
 use tally::Tally;
 
 const KNOWN_RECORDS: &str = "tests/oracle/traps.txt";
@@ -33,6 +36,10 @@ const DEFAULT_SEED: u64 = 20_261_115;
 
 /// Where the unaltered Rust follows the power rule too.
 const UNALTERED_AT: [f64; 4] = [0.0, -0.0, 1.0, -1.0];
+
+/// What `sphj` asks `msta1` and `msta2` for.
+const FIRST_MAGNITUDE: u32 = 200;
+const DIGITS: u32 = 15;
 
 /// What every routine is held against, in the order in which the routines need each other.
 struct Tallies {
@@ -43,6 +50,10 @@ struct Tallies {
     kmn: Tally,
     qstar: Tally,
     cbk: Tally,
+    msta1: Tally,
+    msta2: Tally,
+    sphj: Tally,
+    rmn1: Tally,
     coefficients: Tally,
 }
 
@@ -64,6 +75,10 @@ fn main() -> ExitCode {
         kmn: Tally::new("kmn"),
         qstar: Tally::new("qstar"),
         cbk: Tally::new("cbk"),
+        msta1: Tally::new("msta1"),
+        msta2: Tally::new("msta2"),
+        sphj: Tally::new("sphj"),
+        rmn1: Tally::new("rmn1 off the disc"),
         coefficients: Tally::new("coefficients, refusals included"),
     };
     let Ok(known) = known_records() else {
@@ -76,6 +91,7 @@ fn main() -> ExitCode {
             tallies.compare_mode(kind, record);
         }
     }
+    tallies.compare_orders(count, seed);
     let mut generator = Generator::new(seed);
     let mut compared = 0;
     while compared < count {
@@ -128,6 +144,64 @@ impl Tallies {
         if coefficient_refusal(record, Request::Radial).is_none() {
             self.compare_disc(record, &df, &ck);
         }
+        if record.operation == 8 && record.x > 0.0 && refusal(record).is_none() {
+            self.compare_off_disc(record, &df);
+        }
+    }
+
+    /// The Bessel functions of an accepted record of operation 8, up to the order that `rmn1` asks for
+    /// and to others, and the first kind.
+    fn compare_off_disc(&mut self, record: &Record, df: &Places) {
+        let Record { m, n, c, x, .. } = *record;
+        let highest = highest_order(m, n, c);
+        for order in [highest, 0, 1, 2, 251] {
+            if c * x >= 1e-100 && order >= 2 && orders::search(c * x, order).is_err() {
+                continue;
+            }
+            let (mut sj, mut dj) = ([0.0; 252], [0.0; 252]);
+            let ours = routines_sphj(c * x, order as u32, &mut sj, &mut dj);
+            let (theirs, rust_sj, rust_dj) = answer::sphj(c * x, order);
+            let (ours, theirs) = (f64::from(ours), f64::from(theirs));
+            let ours = [&[ours], &sj[..], &dj[..]].concat();
+            let theirs = [&[theirs], &rust_sj[..], &rust_dj[..]].concat();
+            compare(&mut self.sphj, record, &ours, &theirs);
+        }
+        let [mut value, mut derivative] = [0.0; 2];
+        let (m, n) = (u32::from(m), u32::from(n));
+        routines_rmn1(df, m, n, c, x, &mut value, &mut derivative);
+        let theirs = answer::rmn1(record, df);
+        compare(&mut self.rmn1, record, &[value, derivative], &theirs);
+    }
+
+    /// Arguments that operation 8 accepts, and as many that lead to other trial orders, for which the
+    /// answer is 0.
+    fn compare_orders(&mut self, count: usize, seed: u64) {
+        let mut random = Random::new(seed);
+        for at in 0..count {
+            let x = match at % 4 {
+                0 => random.log_uniform(1e-100, 200.0),
+                1 => 200.0 * random.unit() + 1e-100,
+                2 => random.log_uniform(1e-300, 1e-90),
+                _ => random.log_uniform(1e2, 1e10),
+            };
+            let n = random.between(1, 251);
+            let order = match orders::msta1(x, FIRST_MAGNITUDE as i32) {
+                Ok(_) => answer::msta1(x, FIRST_MAGNITUDE as i32),
+                Err(_) => 0,
+            };
+            let ours = routines_msta1(x, FIRST_MAGNITUDE);
+            self.msta1.count(i64::from(ours) == i64::from(order), || {
+                format!("x {x:?}: ours {ours} Rust {order}")
+            });
+            let order = match orders::msta2(x, i32::from(n), DIGITS as i32) {
+                Ok(_) => answer::msta2(x, i32::from(n), DIGITS as i32),
+                Err(_) => 0,
+            };
+            let ours = routines_msta2(x, u32::from(n), DIGITS);
+            self.msta2.count(i64::from(ours) == i64::from(order), || {
+                format!("x {x:?} n {n}: ours {ours} Rust {order}")
+            });
+        }
     }
 
     /// The routines of the disc, on the coefficients of either kind: those of a prolate mode are as
@@ -176,6 +250,10 @@ impl Tallies {
             &self.kmn,
             &self.qstar,
             &self.cbk,
+            &self.msta1,
+            &self.msta2,
+            &self.sphj,
+            &self.rmn1,
             &self.coefficients,
         ];
         for tally in all {

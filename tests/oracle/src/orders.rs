@@ -44,7 +44,7 @@ pub fn msta2(x: f64, n: i32, mp: i32) -> Result<Vec<i32>, OutOfRange> {
 }
 
 fn beyond_argument(x: f64) -> i32 {
-    (1.1 * x.abs()) as i32 + 1
+    ((1.1 * x.abs()) as i32).saturating_add(1)
 }
 
 /// About how many decimal places of the Bessel function of this order are zero at x.
