@@ -39,12 +39,7 @@ unsafe extern "C" {
     /// 0 where a trial order is not from 1 to 100,000, as in the next two.
     pub safe fn routines_msta1(x: f64, mp: u32) -> u32;
     pub safe fn routines_msta2(x: f64, n: u32, mp: u32) -> u32;
-    pub safe fn routines_sphj(
-        x: f64,
-        n: u32,
-        sj: &mut BesselPlaces,
-        dj: &mut BesselPlaces,
-    ) -> u32;
+    pub safe fn routines_sphj(x: f64, n: u32, sj: &mut BesselPlaces, dj: &mut BesselPlaces) -> u32;
     pub safe fn routines_rmn1(
         df: &Places,
         m: u32,
