@@ -21,7 +21,7 @@ fn settled_by(test: Test, sum: f64, sw: f64) -> bool
 }
 
 // The factor of the k-th coefficient in these sums, from that of the one before.
-fn next_factor(m: u32, ip: u32, k: u32, r: f64) -> f64
+pub fn next_factor(m: u32, ip: u32, k: u32, r: f64) -> f64
     requires { ⌜ (m < 1000) × (ip < 2) × (k < 1000) ⌝ }
     ensures { λ x. ⌜ x ≡ Sums.nextFactor m ip k r ⌝ }
 {
@@ -31,7 +31,7 @@ fn next_factor(m: u32, ip: u32, k: u32, r: f64) -> f64
 }
 
 // Whether the sum may stop after its k-th term. `half` is the place of the mode's own coefficient.
-fn stops(test: Test, half: u32, k: u32, sum: f64, sw: f64) -> bool
+pub fn stops(test: Test, half: u32, k: u32, sum: f64, sw: f64) -> bool
     ensures { λ r. ⌜ r ≡ Sums.stops test half k sum sw ⌝ }
 {
     if half < k {
