@@ -1,10 +1,10 @@
--- Halves of n − m as whole numbers: w is the whole part of (n − m)/2. Document 01's H = (n − m)/2 + c is below 175; since rounding keeps the order, so are w + c and w plus the whole part of c.
+-- Halves of n − m as whole numbers: w is the whole part of (n − m)/2. Document 01's H = (n − m)/2 + c is below 175; since rounding keeps the order, so are w + c and w plus the whole part of c, and the latter is at most the whole part of H.
 -- Assumes nothing.
 use Prim.Native.Nat.{ℕ, _+_, _-_, _*_, _/_, _^_, _<_, _≤_, min}
 use mathlib.Core.Path.{_≡_, refl, sym, ap, subst, _∙_}
 use mathlib.Core.Bool.{Bool, true, false, _&&_, _||_}
 use native.Mathlib.Omega.{arith}
-use native.Mathlib.Nat.{le-of-eq, lt-of-le-of-lt, lt-of-lt-of-le, zero-mul, mul-one, mul-comm, mul-assoc, mul-left-comm, mul-right-comm, add-mul, add-zero, sub-zero, mul-pos, mul-le-mul-right, mul-lt-mul-of-pos-right, lt-of-mul-lt-mul-right, le-trans, div-mul-le-self}
+use native.Mathlib.Nat.{le-of-eq, lt-of-le-of-lt, lt-of-lt-of-le, zero-mul, mul-one, mul-comm, mul-assoc, mul-left-comm, mul-right-comm, add-mul, add-zero, sub-zero, mul-pos, mul-le-mul-right, mul-lt-mul-of-pos-right, lt-of-mul-lt-mul-right, le-trans, div-mul-le-self, le-div-iff-mul-le, le-of-mul-le-mul-right}
 use borrow.Author.Tests.{ltb-true, ltb-false, lt-ltb, le-ltb}
 use lib.Dec.{T, ltb, eqb, ltb→lt, eqb→eq}
 use lib.Pow.{shl-lt, pow-mono}
@@ -177,3 +177,62 @@ part-below (fin false m e) (fin s i g) w p z k = cut s
 pub whole-and-part : (offset : ℕ) (c : Float) → offset < 200 → lt c #0 ≡ false → lt (hOf offset c) #175 ≡ true → offset / 2 + wholePart c < 175
 unfolding ofInt
 whole-and-part offset c o p q = part-below (dbl (offset / 2)) c (offset / 2) (round-whole binary64 false (offset / 2) (omega arith)) p (half-below offset c o p q)
+
+-- ---- and it is at most the whole part of H
+number-most : (x y : Float) (n : ℕ) → HasValue x false n 1 → n < 175 → Unsigned y → T (le x y) → n ≤ wholePart y
+unfolding le lt eq toUnsigned
+number-most nan y n v few u h = absurd v
+number-most (inf s) y n v few u h = absurd v
+number-most (fin true m e) y n v few u h = not-left (v .0)
+number-most (fin false m e) nan n v few u h = absurd h
+number-most (fin false m e) (inf true) n v few u h = not-left u
+number-most (fin false m e) (inf false) n v few u h = omega arith
+number-most (fin false m e) (fin true k d) n v few u h = not-left u
+number-most (fin false m e) (fin false k d) n v few u h = least (k * up d / down d) (le-div-iff-mul-le (down-pos d) .1 (le-of-mul-le-mul-right {k = down e} down-more (down-pos e)))
+  where
+    least : (c : ℕ) → n ≤ c → n ≤ min c (2 ^ 31 - 1)
+    least c l = omega arith
+
+    down-more : n * down d * down e ≤ k * up d * down e
+    down-more = le-trans (le-of-eq (mul-right-comm n (down d) (down e) ∙ ap (λ (z : ℕ). z * down d) (sym (v .1) ∙ mul-one (m * up e)))) (at-most (m * up e * down d) (k * up d * down e) true h)
+
+half-order : (w t b e g m i : ℕ) → m * 2 ≡ b * e → w * 2 ≤ b → t * g ≤ i → (w + t) * (e * g) ≤ (m * g + i * e) * 1
+half-order w t b e g m i h l k =
+    let r : (w + t) * (e * g) ≡ w * e * g + t * g * e = simp (add-mul, mul-assoc, mul-comm) refl in
+    rw (r, mul-one (m * g + i * e)) (both (w * e * g) (m * g) (t * g * e) (i * e) (mul-le-mul-right g (half (w * e) m (le-trans (le-of-eq (mul-right-comm w e 2)) (le-trans (mul-le-mul-right e l) (le-of-eq (sym h)))))) (mul-le-mul-right e k))
+  where
+    half : (a c : ℕ) → a * 2 ≤ c * 2 → a ≤ c
+    half a c h = omega arith
+
+    both : (a b c d : ℕ) → a ≤ b → c ≤ d → a + c ≤ b + d
+    both a b c d h k = omega arith
+
+sum-most : (x c : Float) (b w : ℕ) → HasValue x false b 2 → w * 2 ≤ b → lt c #0 ≡ false → w + wholePart c < 175 → lt (x ⊕ c) #175 ≡ true → w + wholePart c ≤ wholePart (x ⊕ c)
+unfolding add lt ofBits toUnsigned ofInt
+sum-most nan c b w v h z few k = absurd v
+sum-most (inf s) c b w v h z few k = absurd v
+sum-most (fin true m e) c b w v h z few k = not-left (v .0)
+sum-most (fin false m e) nan b w v h z few k = not-taken k
+sum-most (fin false m e) (inf true) b w v h z few k = not-left z
+sum-most (fin false m e) (inf false) b w v h z few k = not-taken k
+sum-most (fin false m e) (fin s i g) b w v h z few k =
+    number-most (dbl n) (fin false m e ⊕ fin s i g) n (round-whole binary64 false n (omega arith)) few (sum-unsigned (fin false m e) (fin s i g) refl z)
+    (rw (sum-is m e s i g z) (round-mono binary64 n 1 (m * up e * down g + i * up g * down e) (down e * down g) (omega arith) (mul-pos (down-pos e) (down-pos g)) ordered))
+  where
+    n : ℕ
+    n = w + wholePart (fin s i g)
+
+    cut : (s : Bool) → wholePart (fin s i g) ≤ i * up g / down g
+    cut false = omega arith
+    cut true = omega arith
+
+    more : (a b c : ℕ) → b ≤ c → a + b ≤ a + c
+    more a b c h = omega arith
+
+    ordered : n * (down e * down g) ≤ (m * up e * down g + i * up g * down e) * 1
+    ordered =
+        le-trans (mul-le-mul-right (down e * down g) (more w (wholePart (fin s i g)) (i * up g / down g) (cut s)))
+        (half-order w (i * up g / down g) b (down e) (down g) (m * up e) (i * up g) (v .1) h (div-mul-le-self (i * up g) (down g)))
+
+pub whole-at-most : (offset : ℕ) (c : Float) → offset < 200 → lt c #0 ≡ false → lt (hOf offset c) #175 ≡ true → offset / 2 + wholePart c ≤ wholePart (hOf offset c)
+whole-at-most offset c o p q = sum-most (dbl offset ⊘ #2) c offset (offset / 2) (half-value offset (omega arith)) (omega arith) p (whole-and-part offset c o p q) q

@@ -1,16 +1,21 @@
--- Both oblate radial kinds at argument zero (`rswfo` with kf = 3). Definition only.
+-- The oblate radial functions of a mode (`rswfo`): both kinds on the disc (kf = 3), and the first kind on it and off it (kf = 1). Definitions only.
 use Prim.Native.Nat.{ℕ}
 use lib.Ieee.{Float, neg}
 use Rattle.arith.specs.Double.{#1}
 use Rattle.expansion.specs.Sdmn.{sdmn}
 use Rattle.expansion.specs.Sckb.{sckb}
+use Rattle.radial.specs.declared.rmn1.First.{First}
 use Rattle.radial.specs.declared.rswfo.Radial.{Radial}
-use Rattle.radial.specs.Rmn1.{rmn1}
+use Rattle.radial.specs.Rmn1.{onDisc, rmn1}
 use Rattle.radial.specs.Rmn2so.{rmn2so}
 
--- the kind is oblate: kd is −1
+-- both kinds at x = 0; the mode is oblate: kd is −1
 unfoldable pub rswfo : ℕ → ℕ → Float → Float → Radial
 rswfo m n c cv =
     let df = sdmn m n c cv (neg #1) in
     let ck = sckb df m n c in
-    record { first = rmn1 df ck m n c; second = rmn2so df ck m n c cv }
+    record { first = onDisc df ck m n c; second = rmn2so df ck m n c cv }
+
+-- the first kind at x
+unfoldable pub firstKind : ℕ → ℕ → Float → Float → Float → First
+firstKind m n c cv x = rmn1 (sdmn m n c cv (neg #1)) m n c x

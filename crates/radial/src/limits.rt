@@ -7,11 +7,11 @@ ghost use Rattle.arith.specs.Double.{#0};
 ghost use Rattle.expansion.specs.Terms as Terms;
 ghost use Rattle.radial.specs.Limits as Limits;
 
-// Of `rmn1`, for n - m and c. It truncates c alone.
+// Of `rmn1`, for n - m and c. It truncates c alone, and is document 01's N or one less.
 pub(crate) fn first_terms(offset: u32, c: f64) -> u32
     requires { ⌜ (offset < 200) × (lt c #0 ≡ false) × (lt (Terms.hOf offset c) Terms.#175 ≡ true) ⌝ }
     ensures { λ r. ⌜ r ≡ Limits.firstTerms offset c ⌝ }
-    ensures { λ r. ⌜ (25 ≤ r) × (r < 200) ⌝ }
+    ensures { λ r. ⌜ (25 ≤ r) × (r < 200) × (r ≤ Terms.termsOf offset c) ⌝ }
 {
     25 + offset / 2 + arith::whole_part(c)
 }

@@ -1,8 +1,9 @@
--- `radial::limits::first_terms` meets its contract: the whole part of c and that of (n − m)/2 are below 175 together. Assumes nothing.
+-- `radial::limits::first_terms` meets its contract: the whole part of c and that of (n − m)/2 are below 175 together, and at most the whole part of H. Assumes nothing.
 use mathlib.Core.Path.{refl}
 use borrow.Author.Needs.{needs}
 use native.Mathlib.Omega.{arith}
-use Rattle.expansion.proofs.Halves.{whole-and-part}
+use Rattle.expansion.proofs.Halves.{whole-and-part, whole-at-most}
+use Rattle.expansion.specs.Terms.{termsOf}
 use Rattle.radial.specs.Limits.{firstTerms}
 use Rattle.radial.proofs.limits.first_terms.Statement.{statement}
 use Rattle.radial.proofs.limits.first_terms.Tie as tie
@@ -20,11 +21,12 @@ add-result-2 c =
     rw (c .whole-part .ensures) (omega (arith, few))
 
 returns : tie.Need-returns
-unfolding firstTerms
+unfolding firstTerms termsOf
 returns c =
     let p = c .before .pre in
     let few = whole-and-part (c .before .args .offset) (c .before .args .c) (p .0) (p .1) (p .2) in
-    rw (c .whole-part .ensures) (refl, (omega arith, omega (arith, few)))
+    let most = whole-at-most (c .before .args .offset) (c .before .args .c) (p .0) (p .1) (p .2) in
+    rw (c .whole-part .ensures) (refl, (omega arith, omega (arith, few), omega (arith, most)))
 
 pub first-terms-spec : {M : Type 1} → statement M
 first-terms-spec = tie.close (tie.spec add-result whole-part-requires add-result-2 returns)

@@ -1,64 +1,25 @@
--- `radial::rmn1::rmn1` meets its contract. Assumes nothing.
-use borrow.Author.Needs.{needs}
+-- `rmn1::rmn1` meets its contract. Assumes nothing.
 use mathlib.Core.Path.{_∙_}
-use Rattle.radial.specs.Rmn1 as Rmn1
+use Rattle.radial.specs.declared.rmn1.First.the-variants.{Known}
+use Rattle.radial.proofs.Laws.{at-zero, off-zero}
+use borrow.Author.Needs.{needs}
 use Rattle.radial.proofs.rmn1.rmn1.Statement.{statement}
 use Rattle.radial.proofs.rmn1.rmn1.Tie as tie
 
-sub-ip : tie.Need-sub-ip
-sub-ip c = search needs
+sckb-requires : tie.Need-sckb-requires
+sckb-requires c κs = search needs
 
-sub-first-terms : tie.Need-sub-first-terms
-sub-first-terms c = search needs
-
-first-terms-requires : tie.Need-first-terms-requires
-first-terms-requires c κs = search needs
-
-regulator-requires : tie.Need-regulator-requires
-regulator-requires c κs = search needs
-
-sub-expansion-sum : tie.Need-sub-expansion-sum
-sub-expansion-sum c = search needs
-
-expansion-sum-requires : tie.Need-expansion-sum-requires
-expansion-sum-requires c κs = search needs
-
-powers-sum-requires : tie.Need-powers-sum-requires
-powers-sum-requires c κs = search needs
-
-r2-of-requires : tie.Need-r2-of-requires
-r2-of-requires c κs = search needs
-
-sa0-below-requires : tie.Need-sa0-below-requires
-sa0-below-requires c κs = search needs
-
-sa0-above-requires : tie.Need-sa0-above-requires
-sa0-above-requires c κs = search needs
-
-element-copy-out-placed : tie.Need-element-copy-out-placed
-element-copy-out-placed c = search needs
-
-placed-requires : tie.Need-placed-requires
-placed-requires c κs = search needs
+on-disc-requires : tie.Need-on-disc-requires
+on-disc-requires c κs = search needs
 
 returns : tie.Need-returns
-unfolding Rmn1.rmn1
-returns c = c .placed .ensures ∙ rw (c .before .before .sa0-above .ensures, c .before .before .before .sa0-below .ensures, c .before .before .before .before .r2-of .ensures, c .before .before .before .before .before .powers-sum .ensures, c .before .before .before .before .before .before .expansion-sum .ensures, c .before .before .before .before .before .before .before .regulator .ensures, c .before .before .before .before .before .before .before .before .first-terms .ensures .0)
+returns c = rw (c .on-disc .ensures, c .before .before .sckb .ensures) (at-zero _ _ _ _ _ (c .before .before .before .if1 .taken))
+
+off-disc-requires : tie.Need-off-disc-requires
+off-disc-requires c κs = (c .before .pre .0, c .before .pre .1 (c .if1 .left))
+
+returns-2 : tie.Need-returns-2
+returns-2 c = c .off-disc .ensures ∙ off-zero _ _ _ _ _ (c .before .if1 .left)
 
 pub rmn1-spec : {M : Type 1} → statement M
-rmn1-spec =
-    tie.close
-    (tie.spec
-    sub-ip
-    sub-first-terms
-    first-terms-requires
-    regulator-requires
-    sub-expansion-sum
-    expansion-sum-requires
-    powers-sum-requires
-    r2-of-requires
-    sa0-below-requires
-    sa0-above-requires
-    element-copy-out-placed
-    placed-requires
-    returns)
+rmn1-spec = tie.close (tie.spec sckb-requires on-disc-requires returns off-disc-requires returns-2)

@@ -10,15 +10,15 @@ sdmn-requires c κs = search needs
 sckb-requires : tie.Need-sckb-requires
 sckb-requires c κs = search needs
 
-rmn1-requires : tie.Need-rmn1-requires
-rmn1-requires c κs = search needs
+on-disc-requires : tie.Need-on-disc-requires
+on-disc-requires c κs = search needs
 
 rmn2so-requires : tie.Need-rmn2so-requires
 rmn2so-requires c κs = search needs
 
 returns : tie.Need-returns
 unfolding Rswfo.rswfo
-returns c = rw (c .before .before .before .rmn1 .ensures, c .rmn2so .ensures, c .before .before .before .before .before .before .sckb .ensures, c .before .before .before .before .before .before .before .before .sdmn .ensures)
+returns c = rw (c .before .before .before .on-disc .ensures, c .rmn2so .ensures, c .before .before .before .before .before .before .sckb .ensures, c .before .before .before .before .before .before .before .before .sdmn .ensures)
 
 pub rswfo-spec : {M : Type 1} → statement M
-rswfo-spec = tie.close (tie.spec sdmn-requires sckb-requires rmn1-requires rmn2so-requires returns)
+rswfo-spec = tie.close (tie.spec sdmn-requires sckb-requires on-disc-requires rmn2so-requires returns)
