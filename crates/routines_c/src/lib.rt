@@ -1,6 +1,8 @@
 // The ported routines as Rust callers link them, for the differential test and the benchmark. What
 // buyers link is `spheroidal_c`.
 ghost use mathlib.Core.Path.{_≡_};
+ghost use mathlib.Core.Bool.{cond};
+ghost use lib.Dec.{eqb};
 ghost use Prim.Native.Nat.{_<_, _≤_};
 ghost use Rattle.expansion.specs.Terms.{Usable};
 ghost use Rattle.expansion.specs.Sdmn as Sdmn;
@@ -9,6 +11,9 @@ ghost use Rattle.angular.specs.Aswfa as Aswfa;
 ghost use Rattle.joining.specs.Kmn as Kmn;
 ghost use Rattle.joining.specs.Qstar as Qstar;
 ghost use Rattle.joining.specs.Cbk as Cbk;
+ghost use Rattle.bessel.specs.Msta1 as Msta1;
+ghost use Rattle.bessel.specs.Msta2 as Msta2;
+ghost use Rattle.bessel.specs.Sphj as Sphj;
 
 // kd is 1 or -1.
 #[no_mangle]
@@ -87,4 +92,41 @@ pub extern "C" fn routines_aswfa(
     let p = angular::aswfa::aswfa(m, n, c, cv, kd, x);
     *value = p.value;
     *derivative = p.derivative;
+}
+
+// 0 where an order outside 1 to 100,000 would have to be tried.
+#[no_mangle]
+pub extern "C" fn routines_msta1(x: f64, mp: u32) -> u32
+    ensures { λ r. ⌜ r ≡ Msta1.msta1 x mp ⌝ }
+{
+    bessel::msta1::msta1(x, mp)
+}
+
+#[no_mangle]
+pub extern "C" fn routines_msta2(x: f64, n: u32, mp: u32) -> u32
+    ensures { λ r. ⌜ r ≡ Msta2.msta2 x n mp ⌝ }
+{
+    bessel::msta2::msta2(x, n, mp)
+}
+
+// The highest order computed, or 0 where the order from which the recurrence starts was not found.
+#[no_mangle]
+pub extern "C" fn routines_sphj(
+    x: f64,
+    n: u32,
+    sj: &mut [f64; 252],
+    dj: &mut [f64; 252],
+) -> u32
+    requires { ⌜ (2 ≤ n) × (n < 252) ⌝ }
+    ensures { λ r. ⌜ r ≡ cond (eqb (Sphj.orders x n .from) 0) 0 (Sphj.orders x n .nm) ⌝ }
+    ensures { λ _. ⌜ (now (sj .exit) ≡ Sphj.sj x n) × (now (dj .exit) ≡ Sphj.dj x n) ⌝ }
+{
+    let orders = bessel::sphj::find_orders(x, n);
+    let nm = orders.nm;
+    let from = orders.from;
+    bessel::sphj::sphj(x, n, orders, sj, dj);
+    if from == 0 {
+        return 0;
+    }
+    nm
 }
