@@ -111,12 +111,7 @@ pub extern "C" fn routines_msta2(x: f64, n: u32, mp: u32) -> u32
 
 // The highest order computed, or 0 where the order from which the recurrence starts was not found.
 #[no_mangle]
-pub extern "C" fn routines_sphj(
-    x: f64,
-    n: u32,
-    sj: &mut [f64; 252],
-    dj: &mut [f64; 252],
-) -> u32
+pub extern "C" fn routines_sphj(x: f64, n: u32, sj: &mut [f64; 252], dj: &mut [f64; 252]) -> u32
     requires { ⌜ (2 ≤ n) × (n < 252) ⌝ }
     ensures { λ r. ⌜ r ≡ cond (eqb (Sphj.orders x n .from) 0) 0 (Sphj.orders x n .nm) ⌝ }
     ensures { λ _. ⌜ (now (sj .exit) ≡ Sphj.sj x n) × (now (dj .exit) ≡ Sphj.dj x n) ⌝ }

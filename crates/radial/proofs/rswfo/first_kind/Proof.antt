@@ -5,15 +5,15 @@ use borrow.Author.Needs.{needs}
 use Rattle.radial.proofs.rswfo.first_kind.Statement.{statement}
 use Rattle.radial.proofs.rswfo.first_kind.Tie as tie
 
-sdmn-requires : tie.Need-sdmn-requires
-sdmn-requires c κs = search needs
+coefficients-requires : tie.Need-coefficients-requires
+coefficients-requires c κs = search needs
 
 rmn1-requires : tie.Need-rmn1-requires
 rmn1-requires c κs = search needs
 
 returns : tie.Need-returns
 unfolding firstKind
-returns c = c .rmn1 .ensures ∙ rw (c .before .before .sdmn .ensures)
+returns c = c .rmn1 .ensures ∙ rw (c .before .before .coefficients .ensures)
 
 pub first-kind-spec : {M : Type 1} → statement M
-first-kind-spec = tie.close (tie.spec sdmn-requires rmn1-requires returns)
+first-kind-spec = tie.close (tie.spec coefficients-requires rmn1-requires returns)

@@ -4,8 +4,8 @@ use Rattle.radial.specs.Rswfo as Rswfo
 use Rattle.radial.proofs.rswfo.rswfo.Statement.{statement}
 use Rattle.radial.proofs.rswfo.rswfo.Tie as tie
 
-sdmn-requires : tie.Need-sdmn-requires
-sdmn-requires c κs = search needs
+coefficients-requires : tie.Need-coefficients-requires
+coefficients-requires c κs = search needs
 
 sckb-requires : tie.Need-sckb-requires
 sckb-requires c κs = search needs
@@ -18,7 +18,7 @@ rmn2so-requires c κs = search needs
 
 returns : tie.Need-returns
 unfolding Rswfo.rswfo
-returns c = rw (c .before .before .before .on-disc .ensures, c .rmn2so .ensures, c .before .before .before .before .before .before .sckb .ensures, c .before .before .before .before .before .before .before .before .sdmn .ensures)
+returns c = rw (c .before .before .before .on-disc .ensures, c .rmn2so .ensures, c .before .before .before .before .before .before .sckb .ensures, c .before .before .before .before .before .before .before .before .coefficients .ensures)
 
 pub rswfo-spec : {M : Type 1} → statement M
-rswfo-spec = tie.close (tie.spec sdmn-requires sckb-requires on-disc-requires rmn2so-requires returns)
+rswfo-spec = tie.close (tie.spec coefficients-requires sckb-requires on-disc-requires rmn2so-requires returns)
