@@ -1,5 +1,5 @@
 -- How the definitions of refusals and rows unfold, in the form in which the proofs of the code meet them. Assumes nothing.
-use Prim.Native.Nat.{ℕ, suc, _+_, _-_, _≤_, _<_}
+use Prim.Native.Nat.{ℕ, suc, _+_, _-_, _*_, _≤_, _<_}
 use native.Mathlib.Omega.{arith}
 use native.Mathlib.Numerals.{add-one}
 use mathlib.Core.Path.{_≡_, refl, sym, ap, subst, _∙_}
@@ -16,19 +16,22 @@ use Rattle.arith.specs.Choice.{abs}
 use Rattle.arith.specs.Truncation.{wholePart}
 use Rattle.arith.proofs.Flags.{not-left}
 use Rattle.arith.proofs.Laws.{whole-below}
-use Rattle.expansion.specs.Terms.{hOf, Usable, #175}
+use Rattle.expansion.specs.Terms.{hOf, termsOf, Usable, #175}
 use Rattle.expansion.specs.Sdmn.{sdmn}
 use Rattle.segv.specs.Families.{bothFamilies}
 use Rattle.segv.specs.Row.{Slices, slices, writtenRow, Numbered, answer, segvRow}
 use Rattle.radial.specs.declared.rswfo.Radial as Disc
-use Rattle.radial.specs.Rswfo.{rswfo}
+use Rattle.radial.specs.declared.rmn1.First.{First}
+use Rattle.radial.specs.Rswfo.{rswfo, firstKind}
 use Rattle.angular.specs.declared.aswfa.Pair as Angular
 use Rattle.angular.specs.Aswfa.{aswfa}
+use Rattle.modes.specs.declared.answers.Answer.{Answer}
 use Rattle.modes.specs.declared.answers.Answer.the-variants.{Pair, Quadruple, Refused}
 use Rattle.modes.specs.declared.checking.Mode.{Mode}
 use Rattle.modes.specs.declared.checking.Kind.{Kind}
-use Rattle.modes.specs.Refusals.{outOfRange, noParameter, refusalOf, rowRefusal, modeRefusal, entriesOf, #291, signOf, tooManyTerms, notFinite}
+use Rattle.modes.specs.Refusals.{outOfRange, noParameter, refusalOf, rowRefusal, modeRefusal, entriesOf, #291, signOf, tooManyTerms, notFinite, radialModeRefusal}
 use Rattle.modes.specs.Radial.{radialRefusal, radialKinds, radialOf}
+use Rattle.modes.specs.FirstKind.{#200, tooFar, firstRefusal, pairOrRefusal, firstOf}
 use Rattle.modes.specs.Angular.{outside, angularRefusal, angularPair, angularOf}
 use Rattle.modes.specs.Coefficients.{coefficientsOf}
 use Rattle.modes.specs.Rows.{zeroAt, rowIn, rowOf, tooShort, blankSlices, lessened, dlmfIn, dlmfOf}
@@ -290,32 +293,45 @@ module _ (kind : Kind) (mode : Mode) (cv x : Float) (k : ℕ) (h : k ≡ angular
   pair-given s p z hs hp = rw (← h, z, hp, hs)
 
 -- ---- radial functions
-module _ (mode : Mode) (cv x : Float) (k : ℕ) (h : k ≡ modeRefusal mode) where
+module _ (mode : Mode) (cv : Float) (k : ℕ) (h : k ≡ modeRefusal mode) where
+  pub common-early : (k ≡ 0 → ⊥) → k ≡ radialModeRefusal mode cv
+  unfolding radialModeRefusal
+  common-early n = rw (← h, ne-eqb k 0 n)
+
+  module _ (z : k ≡ 0) where
+    pub common-terms : tooManyTerms mode ≡ true → 6 ≡ radialModeRefusal mode cv
+    unfolding radialModeRefusal
+    common-terms t = rw (← h, z, t)
+
+    pub common-value : tooManyTerms mode ≡ false → notFinite cv ≡ true → 7 ≡ radialModeRefusal mode cv
+    unfolding radialModeRefusal
+    common-value t v = rw (← h, z, t, v)
+
+    pub common-none : tooManyTerms mode ≡ false → notFinite cv ≡ false → 0 ≡ radialModeRefusal mode cv
+    unfolding radialModeRefusal
+    common-none t v = rw (← h, z, t, v)
+
+pub common-usable : (mode : Mode) (cv : Float) → radialModeRefusal mode cv ≡ 0 → modeRefusal mode ≡ 0
+unfolding radialModeRefusal
+common-usable mode cv h = none (modeRefusal mode) _ h
+
+-- ---- both kinds on the disc
+module _ (mode : Mode) (cv x : Float) (k : ℕ) (h : k ≡ radialModeRefusal mode cv) where
   pub radial-early : (k ≡ 0 → ⊥) → k ≡ radialRefusal mode cv x
   unfolding radialRefusal
   radial-early n = rw (← h, ne-eqb k 0 n)
 
-  module _ (z : k ≡ 0) where
-    pub radial-terms : tooManyTerms mode ≡ true → 6 ≡ radialRefusal mode cv x
-    unfolding radialRefusal
-    radial-terms t = rw (← h, z, t)
+  pub radial-none : k ≡ 0 → eq x #0 ≡ true → 0 ≡ radialRefusal mode cv x
+  unfolding radialRefusal
+  radial-none z o = rw (← h, z, o)
 
-    module _ (t : tooManyTerms mode ≡ false) where
-      pub radial-value : notFinite cv ≡ true → 7 ≡ radialRefusal mode cv x
-      unfolding radialRefusal
-      radial-value v = rw (← h, z, t, v)
-
-      pub radial-none : notFinite cv ≡ false → eq x #0 ≡ true → 0 ≡ radialRefusal mode cv x
-      unfolding radialRefusal
-      radial-none v o = rw (← h, z, t, v, o)
-
-      pub radial-outside : notFinite cv ≡ false → eq x #0 ≡ false → 8 ≡ radialRefusal mode cv x
-      unfolding radialRefusal
-      radial-outside v o = rw (← h, z, t, v, o)
+  pub radial-outside : k ≡ 0 → eq x #0 ≡ false → 8 ≡ radialRefusal mode cv x
+  unfolding radialRefusal
+  radial-outside z o = rw (← h, z, o)
 
 pub radial-usable : (mode : Mode) (cv x : Float) → radialRefusal mode cv x ≡ 0 → modeRefusal mode ≡ 0
 unfolding radialRefusal
-radial-usable mode cv x h = none (modeRefusal mode) _ h
+radial-usable mode cv x h = common-usable mode cv (none (radialModeRefusal mode cv) _ h)
 
 module _ (mode : Mode) (cv x : Float) (k : ℕ) (h : k ≡ radialRefusal mode cv x) where
   pub kinds-refused : (k ≡ 0 → ⊥) → Refused k ≡ radialOf mode cv x
@@ -326,3 +342,67 @@ module _ (mode : Mode) (cv x : Float) (k : ℕ) (h : k ≡ radialRefusal mode cv
       → Quadruple (r .first .value) (r .first .derivative) (r .second .value) (r .second .derivative) ≡ radialOf mode cv x
   unfolding radialOf radialKinds
   kinds-given r z e = rw (← h, z, e)
+
+-- ---- the first kind
+module _ (mode : Mode) (x : Float) where
+  pub far-zero : eq x #0 ≡ true → false ≡ tooFar mode x
+  unfolding tooFar
+  far-zero o = rw o
+
+  module _ (o : eq x #0 ≡ false) (n : ℕ) (h : n ≡ termsOf (mode .n - mode .m) (mode .c)) where
+    pub far-orders : 251 < 2 * n + mode .m → true ≡ tooFar mode x
+    unfolding tooFar
+    far-orders t = rw (o, ← h, lt-ltb 251 (2 * n + mode .m) t)
+
+    pub far-argument : 2 * n + mode .m ≤ 251 → lt #200 (mode .c ⊗ x) ≡ tooFar mode x
+    unfolding tooFar
+    far-argument t = rw (o, ← h, le-ltb 251 (2 * n + mode .m) t)
+
+module _ (mode : Mode) (cv x : Float) (k : ℕ) (h : k ≡ radialModeRefusal mode cv) where
+  pub first-early : (k ≡ 0 → ⊥) → k ≡ firstRefusal mode cv x
+  unfolding firstRefusal
+  first-early n = rw (← h, ne-eqb k 0 n)
+
+  module _ (z : k ≡ 0) where
+    pub first-outside : noParameter x ≡ true → 8 ≡ firstRefusal mode cv x
+    unfolding firstRefusal
+    first-outside o = rw (← h, z, o)
+
+    pub first-far : noParameter x ≡ false → tooFar mode x ≡ true → 11 ≡ firstRefusal mode cv x
+    unfolding firstRefusal
+    first-far o f = rw (← h, z, o, f)
+
+    pub first-none : noParameter x ≡ false → tooFar mode x ≡ false → 0 ≡ firstRefusal mode cv x
+    unfolding firstRefusal
+    first-none o f = rw (← h, z, o, f)
+
+-- where nothing is refused the mode is usable, and off the disc its orders are few
+module _ (mode : Mode) (cv x : Float) (h : firstRefusal mode cv x ≡ 0) where
+  common-passes : radialModeRefusal mode cv ≡ 0
+  unfolding firstRefusal
+  common-passes = none (radialModeRefusal mode cv) _ h
+
+  pub first-usable : Usable (mode .m) (mode .n) (mode .c)
+  first-usable = usable mode (common-usable mode cv common-passes)
+
+  near : tooFar mode x ≡ false
+  unfolding firstRefusal
+  near = go (noParameter x) (tooFar mode x) (rw common-passes at h)
+    where
+      go : (a b : Bool) → _≡_ {A = ℕ} (cond a 8 (cond b 11 0)) 0 → b ≡ false
+      go true b e = absurd (omega arith)
+      go false true e = absurd (omega arith)
+      go false false e = refl
+
+  pub first-orders : eq x #0 ≡ false → 2 * termsOf (mode .n - mode .m) (mode .c) + mode .m ≤ 251
+  unfolding tooFar
+  first-orders o = ltb-false 251 _ (neither (ltb 251 (2 * termsOf (mode .n - mode .m) (mode .c) + mode .m)) _ (rw o at near) .0)
+
+module _ (mode : Mode) (cv x : Float) (k : ℕ) (h : k ≡ firstRefusal mode cv x) where
+  pub first-refused : (k ≡ 0 → ⊥) → Refused k ≡ firstOf mode cv x
+  unfolding firstOf
+  first-refused n = rw (← h, ne-eqb k 0 n)
+
+  pub first-given : (r : First) (a : Answer) → k ≡ 0 → r ≡ firstKind (mode .m) (mode .n) (mode .c) cv x → a ≡ pairOrRefusal r → a ≡ firstOf mode cv x
+  unfolding firstOf
+  first-given r a z e p = rw (← h, z, ← e) p

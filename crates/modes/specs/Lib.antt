@@ -5,3 +5,4 @@ pub mod Rows
 pub mod Coefficients
 pub mod Angular
 pub mod Radial
+pub mod FirstKind

@@ -4,9 +4,9 @@ use mathlib.Core.Bool.{cond}
 use lib.Dec.{eqb}
 use Rattle.modes.specs.declared.checking.Kind.the-variants.{Prolate, Oblate}
 use Rattle.modes.specs.declared.operations.Operation.{Operation}
-use Rattle.modes.specs.declared.operations.Operation.the-variants.{Row, Angular, Radial, DlmfRow, Refused}
+use Rattle.modes.specs.declared.operations.Operation.the-variants.{Row, Angular, Radial, DlmfRow, FirstKind, Refused}
 
--- 1 prolate row, 2 oblate row, 3 prolate angular, 4 oblate angular, 5 oblate radial, 6 and 7 the prolate and oblate rows in DLMF's form; any other is refused 3
+-- 1 prolate row, 2 oblate row, 3 prolate angular, 4 oblate angular, 5 oblate radial, 6 and 7 the prolate and oblate rows in DLMF's form, 8 oblate radial of the first kind; any other is refused 3
 unfoldable pub operationOf : ℕ → Operation
 operationOf k =
     cond (eqb k 1) (Row Prolate)
@@ -16,4 +16,5 @@ operationOf k =
     (cond (eqb k 5) Radial
     (cond (eqb k 6) (DlmfRow Prolate)
     (cond (eqb k 7) (DlmfRow Oblate)
-    (Refused 3)))))))
+    (cond (eqb k 8) FirstKind
+    (Refused 3))))))))

@@ -9,12 +9,11 @@ use Rattle.radial.specs.Rswfo.{rswfo}
 use Rattle.modes.specs.declared.answers.Answer.{Answer}
 use Rattle.modes.specs.declared.answers.Answer.the-variants.{Quadruple, Refused}
 use Rattle.modes.specs.declared.checking.Mode.{Mode}
-use Rattle.modes.specs.Refusals.{modeRefusal, tooManyTerms, notFinite}
+use Rattle.modes.specs.Refusals.{radialModeRefusal}
 
 -- the first of 4, 5, 6, 7 and 8 that applies, or 0 for none; 8 is that x isn't zero of either sign
 unfoldable pub radialRefusal : Mode → Float → Float → ℕ
-radialRefusal mode cv x =
-    cond (eqb (modeRefusal mode) 0) (cond (tooManyTerms mode) 6 (cond (notFinite cv) 7 (cond (not (eq x #0)) 8 0))) (modeRefusal mode)
+radialRefusal mode cv x = let k = radialModeRefusal mode cv in cond (eqb k 0) (cond (not (eq x #0)) 8 0) k
 
 -- `rswfo` with kf = 3 at argument zero
 unfoldable pub radialKinds : Mode → Float → Disc.Radial

@@ -1,7 +1,7 @@
 -- The refusals of a mode, in document 01's order. Definitions only.
 use Prim.Native.Nat.{ℕ, _+_, _-_}
 use mathlib.Core.Bool.{Bool, true, false, cond, _||_}
-use lib.Dec.{ltb}
+use lib.Dec.{eqb, ltb}
 use lib.Ieee.{Float, nan, inf, fin, lt, neg}
 use Rattle.arith.specs.Double.{bits, #0, #1}
 use Rattle.arith.specs.Truncation.{wholePart}
@@ -43,7 +43,7 @@ rowRefusal x = refusalOf #291 x
 abbrev pub modeRefusal : Mode → ℕ
 modeRefusal x = refusalOf #175 x
 
--- ---- 6 for operation 5: N + m is above 200
+-- ---- 6 for operations 5 and 8: N + m is above 200
 unfoldable pub tooManyTerms : Mode → Bool
 tooManyTerms x = ltb 200 (termsOf (x .n - x .m) (x .c) + x .m)
 
@@ -52,3 +52,7 @@ unfoldable pub notFinite : Float → Bool
 notFinite nan = true
 notFinite (inf s) = true
 notFinite (fin s m e) = false
+
+-- ---- the first of 4, 5, 6 and 7 that applies to operations 5 and 8, or 0 for none
+unfoldable pub radialModeRefusal : Mode → Float → ℕ
+radialModeRefusal x cv = cond (eqb (modeRefusal x) 0) (cond (tooManyTerms x) 6 (cond (notFinite cv) 7 0)) (modeRefusal x)

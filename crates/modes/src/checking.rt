@@ -1,8 +1,9 @@
 // A mode, its limits and its refusals.
 ghost use mathlib.Core.Path.{_≡_};
-ghost use Prim.Native.Nat.{_-_, _≤_};
-ghost use Rattle.expansion.specs.Terms.{hOf};
+ghost use Prim.Native.Nat.{_-_, _<_, _≤_};
+ghost use Rattle.expansion.specs.Terms.{hOf, termsOf};
 ghost use Rattle.modes.specs.Refusals as Refusals;
+ghost use Rattle.modes.specs.FirstKind as FirstKind;
 
 pub enum Kind {
     Prolate,
@@ -26,8 +27,8 @@ pub(crate) fn sign(kind: Kind) -> f64
     }
 }
 
-// Whether c is NaN, infinite or below zero.
-fn no_parameter(c: f64) -> bool
+// Whether c is NaN, infinite or below zero; off the disc, x is asked the same.
+pub(crate) fn no_parameter(c: f64) -> bool
     ensures { λ r. ⌜ r ≡ Refusals.noParameter c ⌝ }
 {
     if c != c {
@@ -58,6 +59,10 @@ impl Mode {
     pub const LIMIT: f64 = 175.0;
     // What document 01's N and m do not exceed together, for a radial function.
     pub const PLACES: u32 = 200;
+    // What 2N + m does not exceed, nor c * x, off the disc.
+    pub const ORDERS: u32 = 251;
+
+    pub const ARGUMENT: f64 = 200.0;
 
     // Document 01's H: (n - m)/2 + c.
     fn h(self) -> f64
@@ -110,13 +115,51 @@ impl Mode {
         10 + arith::whole_part(self.h())
     }
 
+    // How many terms the expansion of a mode has: document 01's N.
+    fn terms(self) -> u32
+        requires { ⌜ Refusals.modeRefusal self ≡ 0 ⌝ }
+        ensures { λ r. ⌜ r ≡ termsOf (self .n - self .m) (self .c) ⌝ }
+        ensures { λ r. ⌜ r < 200 ⌝ }
+    {
+        expansion::terms::terms((self.n - self.m) as u32, self.c)
+    }
+
     // Whether N + m is above 200.
-    pub(crate) fn too_many_terms(self) -> bool
+    fn too_many_terms(self) -> bool
         requires { ⌜ Refusals.modeRefusal self ≡ 0 ⌝ }
         ensures { λ r. ⌜ r ≡ Refusals.tooManyTerms self ⌝ }
     {
-        let m = self.m as u32;
-        let n = self.n as u32;
-        Mode::PLACES < expansion::terms::terms(n - m, self.c) + m
+        Mode::PLACES < self.terms() + (self.m as u32)
+    }
+
+    // 4, 5, 6 or 7 of a radial function, the first that applies, or 0.
+    pub(crate) fn radial_mode_refusal(self, cv: f64) -> u8
+        ensures { λ r. ⌜ r ≡ Refusals.radialModeRefusal self cv ⌝ }
+    {
+        let refused = self.mode_refusal();
+        if refused != 0 {
+            return refused;
+        }
+        if self.too_many_terms() {
+            return 6;
+        }
+        if not_finite(cv) {
+            return 7;
+        }
+        0
+    }
+
+    // Whether x is not zero, and 2N + m is above 251 or c * x above 200.
+    pub(crate) fn too_far(self, x: f64) -> bool
+        requires { ⌜ Refusals.modeRefusal self ≡ 0 ⌝ }
+        ensures { λ r. ⌜ r ≡ FirstKind.tooFar self x ⌝ }
+    {
+        if x == 0.0 {
+            return false;
+        }
+        if Mode::ORDERS < 2 * self.terms() + (self.m as u32) {
+            return true;
+        }
+        Mode::ARGUMENT < self.c * x
     }
 }

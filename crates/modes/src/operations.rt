@@ -8,10 +8,11 @@ pub enum Operation {
     Angular(Kind),
     Radial,
     DlmfRow(Kind),
+    FirstKind,
     Refused(u8),
 }
 
-// Refusal 3 where the number is not 1 to 7.
+// Refusal 3 where the number is not 1 to 8.
 pub fn operation_of(number: u8) -> Operation
     ensures { λ r. ⌜ r ≡ operationOf number ⌝ }
 {
@@ -23,6 +24,7 @@ pub fn operation_of(number: u8) -> Operation
         5 => Operation::Radial,
         6 => Operation::DlmfRow(Kind::Prolate),
         7 => Operation::DlmfRow(Kind::Oblate),
+        8 => Operation::FirstKind,
         _ => Operation::Refused(3),
     }
 }

@@ -8,15 +8,9 @@ use super::checking::Mode;
 fn radial_refusal(mode: Mode, cv: f64, x: f64) -> u8
     ensures { λ r. ⌜ r ≡ Radial.radialRefusal mode cv x ⌝ }
 {
-    let refused = mode.mode_refusal();
+    let refused = mode.radial_mode_refusal(cv);
     if refused != 0 {
         return refused;
-    }
-    if mode.too_many_terms() {
-        return 6;
-    }
-    if super::checking::not_finite(cv) {
-        return 7;
     }
     if x == 0.0 {
         return 0;

@@ -32,14 +32,18 @@ returns-7 : tie.Need-returns-7
 unfolding operationOf
 returns-7 c = rw (c .match .keys7)
 
--- none of the keys
 returns-8 : tie.Need-returns-8
 unfolding operationOf
-returns-8 c =
+returns-8 c = rw (c .match .keys8)
+
+-- none of the keys
+returns-9 : tie.Need-returns-9
+unfolding operationOf
+returns-9 c =
     let k = c .before .args .number in
-    rw (ne-eqb k 1 (c .match .rest .0 .0 .0 .0 .0 .0 .1), ne-eqb k 2 (c .match .rest .0 .0 .0 .0 .0 .1), ne-eqb k 3 (c .match .rest .0 .0 .0 .0 .1), ne-eqb k 4 (c .match .rest .0 .0 .0 .1), ne-eqb k 5 (c .match .rest .0 .0 .1), ne-eqb k 6 (c .match .rest .0 .1), ne-eqb k 7 (c .match .rest .1))
+    rw (ne-eqb k 1 (c .match .rest .0 .0 .0 .0 .0 .0 .0 .1), ne-eqb k 2 (c .match .rest .0 .0 .0 .0 .0 .0 .1), ne-eqb k 3 (c .match .rest .0 .0 .0 .0 .0 .1), ne-eqb k 4 (c .match .rest .0 .0 .0 .0 .1), ne-eqb k 5 (c .match .rest .0 .0 .0 .1), ne-eqb k 6 (c .match .rest .0 .0 .1), ne-eqb k 7 (c .match .rest .0 .1), ne-eqb k 8 (c .match .rest .1))
 
 pub operation-of-spec : {M : Type 1} → statement M
 operation-of-spec =
     tie.close
-    (tie.spec returns returns-2 returns-3 returns-4 returns-5 returns-6 returns-7 returns-8)
+    (tie.spec returns returns-2 returns-3 returns-4 returns-5 returns-6 returns-7 returns-8 returns-9)

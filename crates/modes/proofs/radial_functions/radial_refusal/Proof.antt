@@ -1,43 +1,20 @@
 -- `modes::radial_functions::radial_refusal` meets its contract. Each return is one case of the definition. Assumes nothing.
 use borrow.Author.Needs.{needs}
-use mathlib.Core.Path.{sym, _∙_}
 use Rattle.modes.proofs.Laws as laws
 use Rattle.modes.proofs.radial_functions.radial_refusal.Statement.{statement}
 use Rattle.modes.proofs.radial_functions.radial_refusal.Tie as tie
 
-mode-refusal-requires : tie.Need-mode-refusal-requires
-mode-refusal-requires c κs = search needs
+radial-mode-refusal-requires : tie.Need-radial-mode-refusal-requires
+radial-mode-refusal-requires c κs = search needs
 
 returns : tie.Need-returns
-returns c = laws.radial-early _ _ _ _ (c .before .mode-refusal .ensures) (c .if1 .taken)
-
-too-many-terms-requires : tie.Need-too-many-terms-requires
-too-many-terms-requires c κs = sym (c .before .mode-refusal .ensures) ∙ c .if1 .left
+returns c = laws.radial-early _ _ _ _ (c .before .radial-mode-refusal .ensures) (c .if1 .taken)
 
 returns-2 : tie.Need-returns-2
-returns-2 c = laws.radial-terms _ _ _ _ (c .before .before .before .mode-refusal .ensures) (c .before .before .if1 .left) (sym (c .before .too-many-terms .ensures) ∙ c .if2 .taken)
-
-not-finite-requires : tie.Need-not-finite-requires
-not-finite-requires c κs = search needs
+returns-2 c = laws.radial-none _ _ _ _ (c .before .before .radial-mode-refusal .ensures) (c .before .if1 .left) (c .if2 .taken)
 
 returns-3 : tie.Need-returns-3
-returns-3 c = laws.radial-value _ _ _ _ (c .before .before .before .before .before .mode-refusal .ensures) (c .before .before .before .before .if1 .left) (sym (c .before .before .before .too-many-terms .ensures) ∙ c .before .before .if2 .left) (sym (c .before .not-finite .ensures) ∙ c .if3 .taken)
-
-returns-4 : tie.Need-returns-4
-returns-4 c = laws.radial-none _ _ _ _ (c .before .before .before .before .before .before .mode-refusal .ensures) (c .before .before .before .before .before .if1 .left) (sym (c .before .before .before .before .too-many-terms .ensures) ∙ c .before .before .before .if2 .left) (sym (c .before .before .not-finite .ensures) ∙ c .before .if3 .left) (c .if4 .taken)
-
-returns-5 : tie.Need-returns-5
-returns-5 c = laws.radial-outside _ _ _ _ (c .before .before .before .before .before .before .mode-refusal .ensures) (c .before .before .before .before .before .if1 .left) (sym (c .before .before .before .before .too-many-terms .ensures) ∙ c .before .before .before .if2 .left) (sym (c .before .before .not-finite .ensures) ∙ c .before .if3 .left) (c .if4 .left)
+returns-3 c = laws.radial-outside _ _ _ _ (c .before .before .radial-mode-refusal .ensures) (c .before .if1 .left) (c .if2 .left)
 
 pub radial-refusal-spec : {M : Type 1} → statement M
-radial-refusal-spec =
-    tie.close
-    (tie.spec
-    mode-refusal-requires
-    returns
-    too-many-terms-requires
-    returns-2
-    not-finite-requires
-    returns-3
-    returns-4
-    returns-5)
+radial-refusal-spec = tie.close (tie.spec radial-mode-refusal-requires returns returns-2 returns-3)

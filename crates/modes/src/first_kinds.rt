@@ -1,0 +1,45 @@
+// The first oblate radial function of a mode, on the disc and off it.
+ghost use mathlib.Core.Path.{_≡_};
+ghost use Rattle.modes.specs.FirstKind as FirstKind;
+use super::answers::Answer;
+use super::checking::Mode;
+use radial::rmn1::First;
+
+// The first of 4 to 8 and 11 that applies, or 0.
+fn first_refusal(mode: Mode, cv: f64, x: f64) -> u8
+    ensures { λ r. ⌜ r ≡ FirstKind.firstRefusal mode cv x ⌝ }
+{
+    let refused = mode.radial_mode_refusal(cv);
+    if refused != 0 {
+        return refused;
+    }
+    if super::checking::no_parameter(x) {
+        return 8;
+    }
+    if mode.too_far(x) {
+        return 11;
+    }
+    0
+}
+
+// The pair, or refusal 12.
+fn pair_or_refusal(found: First) -> Answer
+    ensures { λ r. ⌜ r ≡ FirstKind.pairOrRefusal found ⌝ }
+{
+    match found {
+        First::Known(pair) => Answer::Pair(pair.value, pair.derivative),
+        First::NoOrder => Answer::Refused(12),
+    }
+}
+
+// The first oblate radial function of a mode with the characteristic value cv, and its derivative, at
+// a finite x not below zero. Refusals 4 to 8, 11 and 12.
+pub fn first_kind(mode: Mode, cv: f64, x: f64) -> Answer
+    ensures { λ r. ⌜ r ≡ FirstKind.firstOf mode cv x ⌝ }
+{
+    let refused = first_refusal(mode, cv, x);
+    if refused != 0 {
+        return Answer::Refused(refused);
+    }
+    pair_or_refusal(radial::rswfo::first_kind(mode.m as u32, mode.n as u32, mode.c, cv, x))
+}
