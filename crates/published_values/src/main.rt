@@ -78,6 +78,7 @@ fn answer_to(request: Record, which: u8) -> f64 {
             number_of(modes::angular(kind, mode, request.cv, request.x), which)
         }
         Operation::Radial => number_of(modes::radial(mode, request.cv, request.x), which),
+        Operation::FirstKind => number_of(modes::first_kind(mode, request.cv, request.x), which),
         Operation::DlmfRow(_) => 0.0 / 0.0,
         Operation::Refused(_) => 0.0 / 0.0,
     }

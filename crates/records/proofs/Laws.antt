@@ -13,7 +13,7 @@ use lib.Seq.{length-take-le, take-at, drop-at, drop-drop, take-set-le, drop-set-
 use Rattle.records.specs.Record.{numberAt}
 use lib.Ieee.{Float}
 use Rattle.records.specs.Text.{Put, digit, decimalIn, decimal, hexadecimal}
-use Rattle.records.specs.Lines.{vLine, zLine, dLine, aLine, fLine, rLine}
+use Rattle.records.specs.Lines.{vLine, zLine, dLine, pairLine, fLine, rLine}
 
 -- ---- little-endian numbers in two halves
 pub numberAt-4 : (input : List ℕ) (at : ℕ) → numberAt input at 4 ≡ numberAt input at 2 + 0x1_0000 * numberAt input (at + 2) 2
@@ -129,8 +129,8 @@ dLine-length index mode value i m = simp (length-append, hexadecimal-length) (om
 pub rLine-length : (index refusal : ℕ) → index < 2 ^ 64 → refusal < 2 ^ 8 → length (rLine index refusal) ≤ 27
 rLine-length index refusal i r = simp length-append (omega (arith, decimal-length 19 index (omega arith), decimal-length 2 refusal (omega arith)))
 
-pub aLine-length : (index m n : ℕ) (value derivative : Float) → index < 2 ^ 64 → m < 2 ^ 16 → n < 2 ^ 16 → length (aLine index m n value derivative) ≤ 69
-aLine-length index m n value derivative i hm hn =
+pub pairLine-length : (letter index m n : ℕ) (value derivative : Float) → index < 2 ^ 64 → m < 2 ^ 16 → n < 2 ^ 16 → length (pairLine letter index m n value derivative) ≤ 69
+pairLine-length letter index m n value derivative i hm hn =
     simp (length-append, hexadecimal-length) (omega (arith, decimal-length 19 index (omega arith), decimal-length 4 m (omega arith), decimal-length 4 n (omega arith)))
 
 pub fLine-length : (index m n : ℕ) (value1 derivative1 value2 derivative2 : Float) → index < 2 ^ 64 → m < 2 ^ 16 → n < 2 ^ 16

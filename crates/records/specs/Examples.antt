@@ -2,6 +2,7 @@
 use mathlib.Core.Path.{_≡_, refl}
 use mathlib.Core.List.{List, [], _∷_, _++_, map}
 use Prim.Native.Nat.{ℕ}
+use Prim.Native.Char.{code}
 use Prim.Native.String.{String}
 use lib.Ieee.{Float, nan, ofBits, toBits}
 use lib.ListN.{take, replicate}
@@ -10,7 +11,7 @@ use Rattle.records.specs.declared.record.Next.{Next}
 use Rattle.records.specs.declared.record.Next.the-variants.{Whole, Refused, End}
 use Rattle.records.specs.Record.{numberAt, nextAt}
 use Rattle.records.specs.Text.{ascii, digit, decimalIn, hexadecimal}
-use Rattle.records.specs.Lines.{vLine, zLine, dLine, rLine}
+use Rattle.records.specs.Lines.{vLine, zLine, dLine, pairLine, rLine}
 
 -- ---- records
 
@@ -67,6 +68,9 @@ lines =
     -- the root of 2, and a NaN
     (dLine 7 3 (bits 0x3ff6_a09e_667f_3bcd), "D 7 3 3ff6a09e667f3bcd\n") ∷
     (dLine 7 4 nan, "D 7 4 7ff8000000000000\n") ∷
+    -- document 01's `A` line, and Card 2's `G` line
+    (pairLine (code "A") 1 0 0 #1 #0, "A 1 0 0 3ff0000000000000 0000000000000000\n") ∷
+    (pairLine (code "G") 10 199 200 #2 six, "G 10 199 200 4000000000000000 4018000000000000\n") ∷
     -- the largest number of a record
     (rLine 18446744073709551615 10, "R 18446744073709551615 10\n") ∷
     []

@@ -1,5 +1,5 @@
 -- The lines that the program writes (document 01, 'A record comes in'). `index` is the number of the record.
-use mathlib.Core.List.{List, _++_}
+use mathlib.Core.List.{List, _∷_, _++_}
 use Prim.Native.Nat.{ℕ}
 use lib.Ieee.{Float}
 use Rattle.arith.specs.Double.{bitsOf}
@@ -37,9 +37,9 @@ dLine index mode value = ascii "D" ++ number index ++ number mode ++ double valu
 abbrev pub pair : Float → Float → List ℕ
 pair value derivative = double value ++ double derivative
 
--- `A`: the angular pair of a mode
-abbrev pub aLine : ℕ → ℕ → ℕ → Float → Float → List ℕ
-aLine index m n value derivative = ascii "A" ++ number index ++ number m ++ number n ++ pair value derivative ++ newline
+-- `A`, the angular pair of a mode, and `G`, its first radial kind: the same but for the letter
+abbrev pub pairLine : ℕ → ℕ → ℕ → ℕ → Float → Float → List ℕ
+pairLine letter index m n value derivative = letter ∷ number index ++ number m ++ number n ++ pair value derivative ++ newline
 
 -- `F`: value and derivative of a mode's first radial kind, then of its second
 abbrev pub fLine : ℕ → ℕ → ℕ → Float → Float → Float → Float → List ℕ

@@ -4,9 +4,9 @@ mod line;
 mod record;
 mod text;
 
-pub use line::a_line;
 pub use line::d_line;
 pub use line::f_line;
+pub use line::pair_line;
 pub use line::r_line;
 pub use line::v_line;
 pub use line::z_line;

@@ -5,7 +5,7 @@ ghost use mathlib.Core.List.{_∷_, _++_};
 ghost use Prim.Native.Nat.{_+_, _≤_};
 ghost use lib.ListN.{length};
 ghost use Rattle.records.specs.Text.{Put};
-ghost use Rattle.records.specs.Lines.{number, double, vLine, zLine, dLine, aLine, fLine, rLine, bracket, pair};
+ghost use Rattle.records.specs.Lines.{number, double, vLine, zLine, dLine, pairLine, fLine, rLine, bracket, pair};
 use super::text;
 
 // A space and a number.
@@ -115,10 +115,11 @@ fn pair(out: &mut [u8], at: usize, value: f64, derivative: f64) -> usize
     double(out, a, derivative)
 }
 
-// The line of an angular pair.
-pub fn a_line(
+// The line of a mode's pair: `A` for the angular one, `G` for the first radial kind.
+pub fn pair_line(
     out: &mut [u8],
     at: usize,
+    letter: u8,
     index: u64,
     m: u16,
     n: u16,
@@ -126,10 +127,10 @@ pub fn a_line(
     derivative: f64,
 ) -> usize
     requires { ⌜ at + 69 ≤ length (now out) ⌝ }
-    ensures { λ r. ⌜ Put (now (out .entry)) (now (out .exit)) at r (aLine index m n value derivative) ⌝ }
+    ensures { λ r. ⌜ Put (now (out .entry)) (now (out .exit)) at r (pairLine letter index m n value derivative) ⌝ }
     ensures { λ r. ⌜ r ≤ at + 69 ⌝ }
 {
-    let a = start_of_mode(out, at, b'A', index, m, n);
+    let a = start_of_mode(out, at, letter, index, m, n);
     let b = pair(out, a, value, derivative);
     text::byte(out, b, b'\n')
 }

@@ -74,7 +74,7 @@ fn print_usage() {
         b"usage: spheroidal < records > lines\n\
         It takes no arguments. Standard input has records of 33 bytes: the mark 53 57 (hexadecimal), the\n\
         operation (one byte), m, n and the allowance (two bytes each), then c, cv and x as doubles, all\n\
-        little-endian. Operations: 1 and 2 rows, 3 and 4 angular, 5 radial, 6 and 7 DLMF rows.\n\
+        little-endian. Operations: 1 and 2 rows, 3 and 4 angular, 5 radial, 6 and 7 DLMF rows, 8 first kind.\n\
         The lines and their refusals are told in docs/SPECIFICATION.md.\n",
     );
 }

@@ -4,7 +4,7 @@ use Rattle.segv.specs.Row.{Numbered, answer}
 use Rattle.modes.specs.declared.answers.Answer.{Answer}
 use Rattle.modes.specs.declared.answers.Answer.the-variants.{Pair, Quadruple, Refused}
 
--- an angular pair is put into its two places with the number 0; else they are as they were. No call for a pair is answered by a quadruple
+-- an angular pair, or the first radial kind, is put into its two places with the number 0; else they are as they were. No call for a pair is answered by a quadruple
 unfoldable pub pairPut : Answer → Float × Float → Numbered (Float × Float)
 pairPut (Pair v d) places = answer 0 (v, d)
 pairPut (Quadruple v1 d1 v2 d2) places = answer 0 places

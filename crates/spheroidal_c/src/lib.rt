@@ -9,6 +9,7 @@ ghost use Rattle.modes.specs.Answers.{given};
 ghost use Rattle.modes.specs.Coefficients.{coefficientsOf};
 ghost use Rattle.modes.specs.Angular.{angularOf};
 ghost use Rattle.modes.specs.Radial.{radialOf};
+ghost use Rattle.modes.specs.FirstKind.{firstOf};
 ghost use Rattle.spheroidal_c.specs.Places.{pairPut, quadruplePut};
 use modes::Answer;
 use modes::Kind;
@@ -273,5 +274,27 @@ pub extern "C" fn spheroidal_oblate_radial(
         derivative1,
         value2,
         derivative2,
+    )
+}
+
+// The first oblate radial function of a mode with the characteristic value cv, and its derivative, at a finite x not below
+// zero.
+#[no_mangle]
+pub extern "C" fn spheroidal_oblate_first_kind(
+    m: u16,
+    n: u16,
+    c: f64,
+    cv: f64,
+    x: f64,
+    value: &mut f64,
+    derivative: &mut f64,
+) -> u8
+    ensures { λ r. ⌜ answer r (now (value .exit), now (derivative .exit))
+        ≡ pairPut (firstOf (record { m = m; n = n; c = c }) cv x) (now (value .entry), now (derivative .entry)) ⌝ }
+{
+    put_pair(
+        modes::first_kind(Mode { m, n, c }, cv, x),
+        value,
+        derivative,
     )
 }

@@ -15,11 +15,12 @@ use Rattle.modes.specs.declared.answers.Answer.{Answer}
 use Rattle.modes.specs.declared.answers.Answer.the-variants as Answers
 use Rattle.modes.specs.declared.answers.Answer.the-variants.{Pair, Quadruple}
 use Rattle.modes.specs.declared.operations.Operation.{Operation}
-use Rattle.modes.specs.declared.operations.Operation.the-variants.{Row, Angular, Radial, DlmfRow, Refused}
+use Rattle.modes.specs.declared.operations.Operation.the-variants.{Row, Angular, Radial, DlmfRow, FirstKind, Refused}
 use Rattle.modes.specs.Operations.{operationOf}
 use Rattle.modes.specs.Rows.{rowOf, dlmfOf, blankSlices}
 use Rattle.modes.specs.Angular.{angularOf}
 use Rattle.modes.specs.Radial.{radialOf}
+use Rattle.modes.specs.FirstKind.{firstOf}
 use Rattle.stream.specs.Response.{rowLines, dLines, rowText, dlmfText, answerText, modeOf, textOf, responseTo}
 use Rattle.stream.specs.Ignored.{AgreeFor, Alike, Line, numbered, IgnoredFields}
 
@@ -40,8 +41,8 @@ zNumberless m row j = line (code "Z") (number (m + j) ++ number (getD (row .subs
 abbrev dNumberless : ℕ → List Float → ℕ → Line
 dNumberless m row j = line (code "D") (number (m + j) ++ double (at row j) ++ newline)
 
-abbrev aNumberless : ℕ → ℕ → Float → Float → Line
-aNumberless m n value derivative = line (code "A") (number m ++ number n ++ pair value derivative ++ newline)
+abbrev pairNumberless : ℕ → ℕ → ℕ → Float → Float → Line
+pairNumberless letter m n value derivative = line letter (number m ++ number n ++ pair value derivative ++ newline)
 
 abbrev fNumberless : ℕ → ℕ → Float → Float → Float → Float → Line
 fNumberless m n value1 derivative1 value2 derivative2 = line (code "F") (number m ++ number n ++ pair value1 derivative1 ++ pair value2 derivative2 ++ newline)
@@ -57,10 +58,10 @@ rowNumberless m row j = vNumberless m row j ∷ zNumberless m row j ∷ []
 abbrev dlmfNumberless : ℕ → List Float → ℕ → List Line
 dlmfNumberless m row j = dNumberless m row j ∷ []
 
-unfoldable answerNumberless : ℕ → ℕ → Answer → Line
-answerNumberless m n (Pair value derivative) = aNumberless m n value derivative
-answerNumberless m n (Quadruple value1 derivative1 value2 derivative2) = fNumberless m n value1 derivative1 value2 derivative2
-answerNumberless m n (Answers.Refused k) = rNumberless k
+unfoldable answerNumberless : ℕ → ℕ → ℕ → Answer → Line
+answerNumberless letter m n (Pair value derivative) = pairNumberless letter m n value derivative
+answerNumberless letter m n (Quadruple value1 derivative1 value2 derivative2) = fNumberless m n value1 derivative1 value2 derivative2
+answerNumberless letter m n (Answers.Refused k) = rNumberless k
 
 unfoldable numberless : Operation → Record → List Line
 numberless (Row kind) r =
@@ -69,8 +70,9 @@ numberless (Row kind) r =
 numberless (DlmfRow kind) r =
     let a = dlmfOf kind (modeOf r) (r .allowance) (replicate 200 #0) in
     cond (eqb (a .number) 0) (eachNumberless (dlmfNumberless (r .m) (a .after)) (r .n - r .m + 1)) (rNumberless (a .number) ∷ [])
-numberless (Angular kind) r = answerNumberless (r .m) (r .n) (angularOf kind (modeOf r) (r .cv) (r .x)) ∷ []
-numberless Radial r = answerNumberless (r .m) (r .n) (radialOf (modeOf r) (r .cv) (r .x)) ∷ []
+numberless (Angular kind) r = answerNumberless (code "A") (r .m) (r .n) (angularOf kind (modeOf r) (r .cv) (r .x)) ∷ []
+numberless Radial r = answerNumberless (code "F") (r .m) (r .n) (radialOf (modeOf r) (r .cv) (r .x)) ∷ []
+numberless FirstKind r = answerNumberless (code "G") (r .m) (r .n) (firstOf (modeOf r) (r .cv) (r .x)) ∷ []
 numberless (Refused k) r = rNumberless k ∷ []
 
 -- ---- with the number put in they are its lines
@@ -95,15 +97,15 @@ d-put i m row j = assoc-3 (code "D" ∷ number i) (number (m + j)) (double (at r
 r-put : (i k : ℕ) → rLine i k ≡ put i (rNumberless k)
 r-put i k = append-assoc (code "R" ∷ number i) (number k) newline
 
-answer-put : (i m n : ℕ) (a : Answer) → answerText i m n a ≡ put i (answerNumberless m n a)
+answer-put : (l i m n : ℕ) (a : Answer) → answerText l i m n a ≡ put i (answerNumberless l m n a)
 unfolding answerText answerNumberless
-answer-put i m n (Pair value derivative) =
-    ap (λ (t : List ℕ). t ++ newline) (assoc-3 (code "A" ∷ number i) (number m) (number n) (pair value derivative))
-    ∙ append-assoc (code "A" ∷ number i) (number m ++ number n ++ pair value derivative) newline
-answer-put i m n (Quadruple value1 derivative1 value2 derivative2) =
+answer-put l i m n (Pair value derivative) =
+    ap (λ (t : List ℕ). t ++ newline) (assoc-3 (l ∷ number i) (number m) (number n) (pair value derivative))
+    ∙ append-assoc (l ∷ number i) (number m ++ number n ++ pair value derivative) newline
+answer-put l i m n (Quadruple value1 derivative1 value2 derivative2) =
     ap (λ (t : List ℕ). t ++ pair value2 derivative2 ++ newline) (assoc-3 (code "F" ∷ number i) (number m) (number n) (pair value1 derivative1))
     ∙ assoc-3 (code "F" ∷ number i) (number m ++ number n ++ pair value1 derivative1) (pair value2 derivative2) newline
-answer-put i m n (Answers.Refused k) = r-put i k
+answer-put l i m n (Answers.Refused k) = r-put i k
 
 -- a text of one line, and a text with one line more
 one : (i : ℕ) (text : List ℕ) (l : Line) → text ≡ put i l → text ≡ numbered i (l ∷ [])
@@ -139,15 +141,16 @@ row-numbered i k text xs e = go (eqb k 0)
     go true = e
     go false = one i (rLine i k) (rNumberless k) (r-put i k)
 
-answer-numbered : (i m n : ℕ) (a : Answer) → answerText i m n a ≡ numbered i (answerNumberless m n a ∷ [])
-answer-numbered i m n a = one i (answerText i m n a) (answerNumberless m n a) (answer-put i m n a)
+answer-numbered : (l i m n : ℕ) (a : Answer) → answerText l i m n a ≡ numbered i (answerNumberless l m n a ∷ [])
+answer-numbered l i m n a = one i (answerText l i m n a) (answerNumberless l m n a) (answer-put l i m n a)
 
 text-numbered : (i : ℕ) (op : Operation) (r : Record) → textOf op i r ≡ numbered i (numberless op r)
 unfolding textOf rowText dlmfText numberless
 text-numbered i (Row kind) r = let a = rowOf kind (modeOf r) (r .allowance) blankSlices in row-numbered i (a .number) _ _ (row-lines-numbered i (r .m) (a .after) (r .n - r .m + 1))
 text-numbered i (DlmfRow kind) r = let a = dlmfOf kind (modeOf r) (r .allowance) (replicate 200 #0) in row-numbered i (a .number) _ _ (d-lines-numbered i (r .m) (a .after) (r .n - r .m + 1))
-text-numbered i (Angular kind) r = answer-numbered i (r .m) (r .n) (angularOf kind (modeOf r) (r .cv) (r .x))
-text-numbered i Radial r = answer-numbered i (r .m) (r .n) (radialOf (modeOf r) (r .cv) (r .x))
+text-numbered i (Angular kind) r = answer-numbered (code "A") i (r .m) (r .n) (angularOf kind (modeOf r) (r .cv) (r .x))
+text-numbered i Radial r = answer-numbered (code "F") i (r .m) (r .n) (radialOf (modeOf r) (r .cv) (r .x))
+text-numbered i FirstKind r = answer-numbered (code "G") i (r .m) (r .n) (firstOf (modeOf r) (r .cv) (r .x))
 text-numbered i (Refused k) r = one i (rLine i k) (rNumberless k) (r-put i k)
 
 -- ---- and they do not depend on what is ignored
@@ -158,6 +161,7 @@ same r s m n c (Row kind) a = rw (m, n, c, a)
 same r s m n c (DlmfRow kind) a = rw (m, n, c, a)
 same r s m n c (Angular kind) a = rw (m, n, c, a .0, a .1)
 same r s m n c Radial a = rw (m, n, c, a .0, a .1)
+same r s m n c FirstKind a = rw (m, n, c, a .0, a .1)
 same r s m n c (Refused k) a = refl
 
 pub ignored-fields : IgnoredFields

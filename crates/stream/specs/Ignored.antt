@@ -1,11 +1,11 @@
--- What of a record its lines do not depend on (document 01, 'A record comes in'): rows ignore cv and x, angular pairs and radial functions the allowance. Two records that differ only there have lines equal but for the record number, wherever in a stream they stand. Statement only: `proofs/Ignored.antt` proves it.
+-- What of a record its lines do not depend on (document 01, 'A record comes in'): rows ignore cv and x, angular pairs and radial functions, operation 8's first kind among them, the allowance. Two records that differ only there have lines equal but for the record number, wherever in a stream they stand. Statement only: `proofs/Ignored.antt` proves it.
 use Prim.Native.Nat.{ℕ}
 use mathlib.Core.Path.{_≡_}
 use mathlib.Core.List.{List, [], _∷_, _++_}
 use Rattle.records.specs.declared.record.Record.{Record}
 use Rattle.records.specs.Lines.{number}
 use Rattle.modes.specs.declared.operations.Operation.{Operation}
-use Rattle.modes.specs.declared.operations.Operation.the-variants.{Row, Angular, Radial, DlmfRow, Refused}
+use Rattle.modes.specs.declared.operations.Operation.the-variants.{Row, Angular, Radial, DlmfRow, FirstKind, Refused}
 use Rattle.modes.specs.Operations.{operationOf}
 use Rattle.stream.specs.Response.{responseTo}
 
@@ -15,6 +15,7 @@ AgreeFor (Row kind) r s = r .allowance ≡ s .allowance
 AgreeFor (DlmfRow kind) r s = r .allowance ≡ s .allowance
 AgreeFor (Angular kind) r s = (r .cv ≡ s .cv) × (r .x ≡ s .x)
 AgreeFor Radial r s = (r .cv ≡ s .cv) × (r .x ≡ s .x)
+AgreeFor FirstKind r s = (r .cv ≡ s .cv) × (r .x ≡ s .x)
 AgreeFor (Refused k) r s = Unit
 
 -- two records that differ in ignored fields at most

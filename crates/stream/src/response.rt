@@ -146,15 +146,23 @@ fn respond_dlmf_row(
     }
 }
 
-// The line of what a mode is answered.
-fn put_answer(answer: Answer, index: u64, m: u16, n: u16, out: &mut [u8], at: usize) -> usize
+// The line of what a mode is answered. A pair's has the operation's letter.
+fn put_answer(
+    answer: Answer,
+    letter: u8,
+    index: u64,
+    m: u16,
+    n: u16,
+    out: &mut [u8],
+    at: usize,
+) -> usize
     requires { ⌜ at + 103 ≤ length (now out) ⌝ }
-    ensures { λ r. ⌜ Put (now (out .entry)) (now (out .exit)) at r (answerText index m n answer) ⌝ }
+    ensures { λ r. ⌜ Put (now (out .entry)) (now (out .exit)) at r (answerText letter index m n answer) ⌝ }
     ensures { λ r. ⌜ r ≤ at + 103 ⌝ }
 {
     match answer {
         Answer::Pair(value, derivative) => {
-            records::a_line(out, at, index, m, n, value, derivative)
+            records::pair_line(out, at, letter, index, m, n, value, derivative)
         }
         Answer::Quadruple(value1, derivative1, value2, derivative2) => records::f_line(
             out,
@@ -189,11 +197,15 @@ pub(crate) fn respond(request: Record, index: u64, out: &mut [u8], at: usize) ->
         Operation::Refused(refusal) => records::r_line(out, at, index, refusal),
         Operation::Angular(kind) => {
             let answer = modes::angular(kind, mode, request.cv, request.x);
-            put_answer(answer, index, request.m, request.n, out, at)
+            put_answer(answer, b'A', index, request.m, request.n, out, at)
         }
         Operation::Radial => {
             let answer = modes::radial(mode, request.cv, request.x);
-            put_answer(answer, index, request.m, request.n, out, at)
+            put_answer(answer, b'F', index, request.m, request.n, out, at)
+        }
+        Operation::FirstKind => {
+            let answer = modes::first_kind(mode, request.cv, request.x);
+            put_answer(answer, b'G', index, request.m, request.n, out, at)
         }
     }
 }

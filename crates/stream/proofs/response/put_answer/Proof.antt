@@ -8,8 +8,8 @@ use Rattle.stream.proofs.response.put_answer.Tie as tie
 enum-known-answer : tie.Need-enum-known-answer
 enum-known-answer c = search needs
 
-a-line-requires : tie.Need-a-line-requires
-a-line-requires c κs = search needs
+pair-line-requires : tie.Need-pair-line-requires
+pair-line-requires c κs = search needs
 
 enum-known-answer-2 : tie.Need-enum-known-answer-2
 enum-known-answer-2 c = search needs
@@ -28,7 +28,7 @@ same-length c = search needs
 
 returns : tie.Need-returns
 unfolding answerText
-returns c = let p = c .before .before .a-line .ensures in (rw (c .before .before .before .before .before .answer .given .1) (p .0), omega (arith, p .1))
+returns c = let p = c .before .before .pair-line .ensures in (rw (c .before .before .before .before .before .answer .given .1) (p .0), omega (arith, p .1))
 
 same-length-2 : tie.Need-same-length-2
 same-length-2 c = search needs
@@ -49,7 +49,7 @@ put-answer-spec =
     tie.close
     (tie.spec
     enum-known-answer
-    a-line-requires
+    pair-line-requires
     enum-known-answer-2
     f-line-requires
     enum-known-answer-3

@@ -45,6 +45,15 @@ radial-requires c κs = search needs
 put-answer-requires-2 : tie.Need-put-answer-requires-2
 put-answer-requires-2 c κs = search needs
 
+enum-told-2 : tie.Need-enum-told-2
+enum-told-2 c = search needs
+
+first-kind-requires : tie.Need-first-kind-requires
+first-kind-requires c κs = search needs
+
+put-answer-requires-3 : tie.Need-put-answer-requires-3
+put-answer-requires-3 c κs = search needs
+
 same-length : tie.Need-same-length
 same-length c = search needs
 
@@ -80,6 +89,13 @@ returns-5 : tie.Need-returns-5
 unfolding responseTo textOf
 returns-5 c = let p = c .before .before .put-answer2 .ensures in (rw (sym (c .before .before .before .before .before .before .before .operation-of .ensures) ∙ c .before .before .before .before .before .enum-told .given .1) (rw (← c .before .before .before .before .radial .ensures) (p .0)), omega (arith, p .1))
 
+same-length-6 : tie.Need-same-length-6
+same-length-6 c = search needs
+
+returns-6 : tie.Need-returns-6
+unfolding responseTo textOf
+returns-6 c = let p = c .before .before .put-answer3 .ensures in (rw (sym (c .before .before .before .before .before .before .before .operation-of .ensures) ∙ c .before .before .before .before .before .enum-told2 .given .1) (rw (← c .before .before .before .before .first-kind .ensures) (p .0)), omega (arith, p .1))
+
 pub respond-spec : {M : Type 1} → statement M
 respond-spec =
     tie.close
@@ -97,6 +113,9 @@ respond-spec =
     enum-told
     radial-requires
     put-answer-requires-2
+    enum-told-2
+    first-kind-requires
+    put-answer-requires-3
     same-length
     returns
     same-length-2
@@ -106,4 +125,6 @@ respond-spec =
     same-length-4
     returns-4
     same-length-5
-    returns-5)
+    returns-5
+    same-length-6
+    returns-6)
