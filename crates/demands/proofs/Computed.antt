@@ -17,18 +17,19 @@ use Rattle.joining.specs.Sums as Joining
 use Rattle.radial.specs.Limits.{firstTerms, secondTerms}
 use Rattle.radial.specs.Rmn1 as Rmn1
 use Rattle.radial.specs.Rmn2so.{rmn2so}
-use Rattle.radial.specs.Rswfo.{rswfo}
-use Rattle.modes.specs.Refusals.{signOf, outOfRange, noParameter, refusalOf, tooManyTerms, notFinite}
+use Rattle.radial.specs.Rswfo.{rswfo, firstKind}
+use Rattle.modes.specs.Refusals.{signOf, outOfRange, noParameter, refusalOf, tooManyTerms, notFinite, radialModeRefusal}
 use Rattle.modes.specs.Rows.{tooShort, zeroAt, rowIn, rowOf, blankSlices, lessened, dlmfIn, dlmfOf}
 use Rattle.modes.specs.Angular.{outside, angularRefusal, angularPair, angularOf}
 use Rattle.modes.specs.Radial.{radialRefusal, radialKinds, radialOf}
+use Rattle.modes.specs.FirstKind.{tooFar, firstRefusal, pairOrRefusal, firstOf}
 
 unfoldable doubles : Bool
 unfolding add sub mul div neg lt le eq ofInt ofBits toBits toUnsigned abs power sqrt
 doubles = true
 
 unfoldable refusals : Bool
-unfolding signOf outOfRange noParameter refusalOf tooManyTerms notFinite termsOf
+unfolding signOf outOfRange noParameter refusalOf tooManyTerms notFinite radialModeRefusal tooFar termsOf
 refusals = true
 
 unfoldable rows : Bool
@@ -47,6 +48,10 @@ unfoldable quadruples : Bool
 unfolding radialOf radialRefusal radialKinds rswfo rmn2so Rmn1.rmn1 Rmn1.placed Rmn1.r2Of Rmn1.powersOn Joining.sa0Above Joining.sa0Below Joining.parityPower Joining.expansionSum Joining.sumOn Joining.stops Joining.settledBy firstTerms secondTerms
 quadruples = true
 
+unfoldable firstKinds : Bool
+unfolding firstOf firstRefusal pairOrRefusal firstKind
+firstKinds = true
+
 unfoldable pub computed : Bool
-unfolding doubles refusals rows coefficients pairs quadruples
+unfolding doubles refusals rows coefficients pairs quadruples firstKinds
 computed = true

@@ -7,4 +7,5 @@ pub mod Demand3
 pub mod Demand3Angular
 pub mod RowLaws
 pub mod Edges
+pub mod Card2
 pub mod Streams

@@ -2,4 +2,5 @@ pub mod Demand1
 pub mod Demand3
 pub mod RowLaws
 pub mod Edges
+pub mod Card2
 pub mod Streams

@@ -18,25 +18,27 @@ streams =
     -- document 01's example, with the lines of Card 1
     (asks 1 ++ 0x53 ∷ 0x57 ∷ 3 ∷ replicate 30 0, "V 0 0 0 0000000000000000 0000000000000000 0000000000000000\nZ 0 0 0\nV 0 1 0 4000000000000000 4000000000000000 4000000000000000\nZ 0 1 0\nV 0 2 0 4018000000000000 4018000000000000 4018000000000000\nZ 0 2 0\nA 1 0 0 3ff0000000000000 0000000000000000\n") ∷
     -- no such operation: the stream goes on
-    (asks 0 ++ asks 8 ++ asks 255 ++ asks 7, "R 0 3\nR 1 3\nR 2 3\nD 3 0 0000000000000000\nD 3 1 4000000000000000\nD 3 2 4018000000000000\n") ∷
+    (asks 0 ++ asks 9 ++ asks 255 ++ asks 7, "R 0 3\nR 1 3\nR 2 3\nD 3 0 0000000000000000\nD 3 1 4000000000000000\nD 3 2 4018000000000000\n") ∷
+    -- Card 2's first kind, on the disc
+    (asks 8, "G 0 0 2 8000000000000000 0000000000000000\n") ∷
     -- it ends inside a record, whatever the mark
     (0x53 ∷ [], "R 0 1\n") ∷
     (replicate 32 0, "R 0 1\n") ∷
-    (asks 8 ++ 0x57 ∷ 0x53 ∷ replicate 30 0, "R 0 3\nR 1 1\n") ∷
+    (asks 9 ++ 0x57 ∷ 0x53 ∷ replicate 30 0, "R 0 3\nR 1 1\n") ∷
     -- the mark differs in one byte, and is turned round: a whole record behind it is not read
     (0x52 ∷ 0x57 ∷ replicate 31 0, "R 0 2\n") ∷
     (0x53 ∷ 0x56 ∷ replicate 31 0 ++ asks 1, "R 0 2\n") ∷
-    (asks 8 ++ 0x57 ∷ 0x53 ∷ replicate 31 0 ++ asks 1, "R 0 3\nR 1 2\n") ∷
+    (asks 9 ++ 0x57 ∷ 0x53 ∷ replicate 31 0 ++ asks 1, "R 0 3\nR 1 2\n") ∷
     []
 
 -- a stream, the room in the buffer, and what a call from byte 0 on answers, the first record being number 5
 abbrev pub calls : List (List ℕ × ℕ × Answered)
 calls =
     -- too little room for any record
-    (asks 8 ++ asks 8, 23799, record { text = []; at = 0; index = 5; refused = false }) ∷
+    (asks 9 ++ asks 9, 23799, record { text = []; at = 0; index = 5; refused = false }) ∷
     -- for one; for both: 23800 bytes are left after the first line
-    (asks 8 ++ asks 8, 23805, record { text = ascii "R 5 3\n"; at = 33; index = 6; refused = false }) ∷
-    (asks 8 ++ asks 8, 23806, record { text = ascii "R 5 3\nR 6 3\n"; at = 66; index = 7; refused = false }) ∷
+    (asks 9 ++ asks 9, 23805, record { text = ascii "R 5 3\n"; at = 33; index = 6; refused = false }) ∷
+    (asks 9 ++ asks 9, 23806, record { text = ascii "R 5 3\nR 6 3\n"; at = 66; index = 7; refused = false }) ∷
     -- a refused stream has its line, and the byte and the number are those of the record that is refused
-    (asks 8 ++ 0x53 ∷ [], 30000, record { text = ascii "R 5 3\nR 6 1\n"; at = 33; index = 6; refused = true }) ∷
+    (asks 9 ++ 0x53 ∷ [], 30000, record { text = ascii "R 5 3\nR 6 1\n"; at = 33; index = 6; refused = true }) ∷
     []
