@@ -45,11 +45,11 @@ unfolding angularOf angularRefusal angularPair outside aswfa signAt beforeSigns 
 pairs = true
 
 unfoldable quadruples : Bool
-unfolding radialOf radialRefusal radialKinds rswfo rmn2so Rmn1.rmn1 Rmn1.placed Rmn1.r2Of Rmn1.powersOn Joining.sa0Above Joining.sa0Below Joining.parityPower Joining.expansionSum Joining.sumOn Joining.stops Joining.settledBy firstTerms secondTerms
+unfolding radialOf radialRefusal radialKinds rswfo rmn2so Rmn1.onDisc Rmn1.placed Rmn1.r2Of Rmn1.powersOn Joining.sa0Above Joining.sa0Below Joining.parityPower Joining.expansionSum Joining.sumOn Joining.stops Joining.settledBy firstTerms secondTerms
 quadruples = true
 
 unfoldable firstKinds : Bool
-unfolding firstOf firstRefusal pairOrRefusal firstKind
+unfolding firstOf firstRefusal pairOrRefusal firstKind Rmn1.rmn1
 firstKinds = true
 
 unfoldable pub computed : Bool
