@@ -4,13 +4,15 @@ use mathlib.Core.Bool.{Bool, true, false}
 use mathlib.Core.List.{map}
 use lib.Dec.{eqb}
 use lib.Ieee.{Float, eq}
-use Rattle.arith.specs.Double.{#0}
+use Rattle.arith.specs.Double.{bits, #0}
+use Prim.Native.Nat.{ℕ}
+use Rattle.modes.specs.declared.answers.Answer.{Answer}
 use Rattle.radial.proofs.Laws.{first-at-zero}
 use Rattle.modes.specs.declared.checking.Mode.{Mode}
 use Rattle.modes.specs.Radial.{radialRefusal, radialKinds, radialOf}
 use Rattle.modes.specs.FirstKind.{firstRefusal, pairOrRefusal, firstOf}
 use Rattle.modes.proofs.Laws.{far-zero}
-use Rattle.demands.specs.Card2.{firstPair, FirstKindOnDisc, FirstEdge, firstEdges}
+use Rattle.demands.specs.Card2.{firstPair, FirstKindOnDisc, FirstEdge, firstEdges, offDisc}
 use Rattle.demands.proofs.Zero.{zero-parameter}
 use Rattle.demands.proofs.Computed.{computed}
 
@@ -29,3 +31,7 @@ first-kind-on-disc mode cv x o = go (eqb (radialRefusal mode cv x) 0) refl
 pub first-edges-right : map (λ (e : FirstEdge). firstRefusal (e .mode) (e .cv) (e .x)) firstEdges ≡ map (λ (e : FirstEdge). e .refusal) firstEdges
 unfolding computed firstEdges
 first-edges-right = refl
+
+pub off-disc-right : map (λ (r : Mode × ℕ × ℕ × Answer). firstOf (r .0) (bits (r .1)) (bits (r .2))) offDisc ≡ map (λ (r : Mode × ℕ × ℕ × Answer). r .3) offDisc
+unfolding computed
+off-disc-right = refl

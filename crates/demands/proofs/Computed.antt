@@ -4,17 +4,28 @@ use lib.Ieee.{add, sub, mul, div, neg, lt, le, eq, ofInt, ofBits, toBits, toUnsi
 use Rattle.arith.specs.Choice.{abs}
 use Rattle.arith.specs.Powers.{power}
 use Rattle.arith.specs.Root.{sqrt}
+use Rattle.arith.specs.Inside.Scaled as Scaled
+use Rattle.elementary.specs.Inside.FixedValues as Fixed
+use Rattle.elementary.specs.Inside.CircleValues as Circle
+use Rattle.elementary.specs.Inside.SmallValues as Small
+use Rattle.elementary.specs.Inside.SineValues as Sines
+use Rattle.elementary.specs.Inside.LogarithmValues as Logarithms
+use Rattle.bessel.specs.Secant as Secant
+use Rattle.bessel.specs.Msta1.{firstOrder, msta1}
+use Rattle.bessel.specs.Msta2.{searchFor, tenMore, msta2}
+use Rattle.bessel.specs.Sphj as Sphj
 use Rattle.segv.specs.Bisection.{bisection}
 use Rattle.segv.specs.Families.{familyFrom, bisectedFamily, familyOf, bothFamilies, eitherStopped}
 use Rattle.segv.specs.Row.{written, writtenRow, segvRow}
 use Rattle.expansion.specs.Terms.{termsOf, clamped}
 use Rattle.expansion.specs.Products.{rising, risingBy}
 use Rattle.expansion.specs.Sums as Sums
-use Rattle.expansion.specs.Sdmn.{sdmn}
+use Rattle.expansion.specs.Sdmn as Sdmn
 use Rattle.expansion.specs.Sckb.{regulator, terms, firstFactor, sumOf, factorial, filled, sckb}
 use Rattle.angular.specs.Aswfa.{nm2Of, a0Of, negligible, summed, su1Of, su2Of, derivativeAtOne, derivativeInside, beforeSigns, signAt, aswfa}
 use Rattle.joining.specs.Sums as Joining
 use Rattle.radial.specs.Limits.{firstTerms, secondTerms}
+use Rattle.radial.specs.BesselSums as BesselSums
 use Rattle.radial.specs.Rmn1 as Rmn1
 use Rattle.radial.specs.Rmn2so.{rmn2so}
 use Rattle.radial.specs.Rswfo.{rswfo, firstKind}
@@ -37,7 +48,7 @@ unfolding rowOf rowIn tooShort zeroAt blankSlices lessened dlmfIn dlmfOf written
 rows = true
 
 unfoldable coefficients : Bool
-unfolding sdmn sckb filled factorial sumOf firstFactor terms regulator Sums.settled Sums.blank rising risingBy clamped
+unfolding Sdmn.sdmn Sdmn.recurrenceOf Sdmn.expanded Sdmn.normalised Sdmn.normOf Sdmn.r4Of Sdmn.sumPast Sdmn.factorAt Sdmn.sumUpTo Sdmn.sumOn Sdmn.ascended Sdmn.climbed Sdmn.storedBelow Sdmn.descend Sdmn.exceeds Sdmn.reducedPlaces Sdmn.scaled Sdmn.reduced Sdmn.tooLarge Sdmn.second Sdmn.above Sdmn.below sckb filled factorial sumOf firstFactor terms regulator Sums.settled Sums.blank rising risingBy clamped
 coefficients = true
 
 unfoldable pairs : Bool
@@ -48,8 +59,20 @@ unfoldable quadruples : Bool
 unfolding radialOf radialRefusal radialKinds rswfo rmn2so Rmn1.onDisc Rmn1.placed Rmn1.r2Of Rmn1.powersOn Joining.sa0Above Joining.sa0Below Joining.parityPower Joining.expansionSum Joining.sumOn Joining.stops Joining.settledBy firstTerms secondTerms
 quadruples = true
 
+unfoldable logarithms : Bool
+unfolding Scaled.scaled Fixed.unpacked Fixed.guarded Logarithms.turned Logarithms.binaryLog Logarithms.tenLog Logarithms.parts Logarithms.guessOf Logarithms.guess Logarithms.testedBelow Logarithms.testedAbove Logarithms.logAboveZero Logarithms.log10
+logarithms = true
+
+unfoldable sines : Bool
+unfolding Fixed.high Fixed.horner Fixed.parts Fixed.lowered Fixed.tested Circle.doubled Circle.cosineSum Circle.sineSum Circle.first Circle.circle Small.split Small.ownSquare Small.evenSum Small.oddSum Small.placed Small.upper Small.testedShare Small.lowSine Small.lowCosine Sines.scaled Sines.reduced Sines.sineSeries Sines.cosineSeries Sines.guess Sines.farCosine Sines.farSine Sines.rangedCosine Sines.rangedSine Sines.cosine Sines.sine
+sines = true
+
+unfoldable bessels : Bool
+unfolding Secant.envj Secant.mayTry Secant.secant Secant.searched firstOrder msta1 searchFor tenMore msta2 Sphj.blank Sphj.tiny Sphj.searchedOrders Sphj.orders Sphj.lowest Sphj.step Sphj.stepsDown Sphj.factor Sphj.scaled Sphj.derived Sphj.sj Sphj.dj
+bessels = true
+
 unfoldable firstKinds : Bool
-unfolding firstOf firstRefusal pairOrRefusal firstKind Rmn1.rmn1
+unfolding firstOf firstRefusal pairOrRefusal firstKind Rmn1.rmn1 Rmn1.toHalf Rmn1.joined Rmn1.offDisc BesselSums.lg BesselSums.factor BesselSums.besselOn logarithms sines bessels
 firstKinds = true
 
 unfoldable pub computed : Bool

@@ -59,3 +59,10 @@ firstEdges =
     edge 176 176 0xbff0_0000_0000_0000 0x7ff0_0000_0000_0000 0xbfe0_0000_0000_0000 5 ∷
     edge 200 200 0xbff0_0000_0000_0000 0x7ff0_0000_0000_0000 0xbfe0_0000_0000_0000 4 ∷
     []
+
+-- a mode, the bits of cv and x, and the bits of value and derivative off the disc, as the program prints them: m = n = 0, c 1, x 1 and m = n = 1, c 2, x 1/2, each with its characteristic value
+abbrev pub offDisc : List (Mode × ℕ × ℕ × Answer)
+offDisc =
+    (record { m = 0; n = 0; c = bits 0x3ff0_0000_0000_0000 }, 0xbfd6_4f80_7042_0b40, 0x3ff0_0000_0000_0000, Pair (bits 0x3fe7_e9e1_9575_a71f) (bits 0xbfd2_04ad_f676_f036)) ∷
+    (record { m = 1; n = 1; c = bits 0x4000_0000_0000_0000 }, 0x3ff1_e598_3d81_2c29, 0x3fe0_0000_0000_0000, Pair (bits 0x3fde_d8fc_2f45_6c20) (bits 0xbf9c_220d_cda5_92a0)) ∷
+    []
