@@ -1,8 +1,9 @@
 /*
  * Spheroidal modes of a flat disc, proved: characteristic values, expansion coefficients, angular
- * functions, and both oblate radial functions on the disc. For C99 and C++11 or later, on x86-64
- * Linux. `./build` makes the library, libspheroidal_c.a, which needs nothing but memcpy and memset:
- * no -lm. It is position-independent; `./build` makes a shared library of it, as this line does:
+ * functions, both oblate radial functions on the disc, and the first kind off it. For C99 and C++11 or
+ * later, on x86-64 Linux. `./build` makes the library, libspheroidal_c.a, which needs nothing but
+ * memcpy and memset: no -lm. It is position-independent; `./build` makes a shared library of it, as
+ * this line does:
  *
  *   cc -shared -o libspheroidal_c.so -Wl,--whole-archive libspheroidal_c.a -Wl,--no-whole-archive
  *
@@ -41,8 +42,8 @@
  * is the length of a row, (size_t)(n - m) + 1. The constants below need no cast.
  *
  * The functions keep no state, allocate nothing, touch no errno and may run in any number of threads
- * at once. Measured, they use up to 37 KB of stack in rows, 12 KB in radial functions and 6 KB in the
- * others.
+ * at once. Measured, they use up to 37 KB of stack in rows, 12 KB in spheroidal_oblate_radial, and 6 KB
+ * in coefficients and angular functions.
  */
 #ifndef SPHEROIDAL_H
 #define SPHEROIDAL_H
@@ -55,9 +56,9 @@
  * where something is added, PATCH where neither: speed, comments, how it is built.
  */
 #define SPHEROIDAL_VERSION_MAJOR 2
-#define SPHEROIDAL_VERSION_MINOR 0
+#define SPHEROIDAL_VERSION_MINOR 1
 #define SPHEROIDAL_VERSION_PATCH 0
-#define SPHEROIDAL_VERSION "2.0.0"
+#define SPHEROIDAL_VERSION "2.1.0"
 
 /*
  * What a function answers. 1 to 3 are refusals of the record program and never come from here. Let
@@ -72,12 +73,19 @@
 #define SPHEROIDAL_REFUSED_TOO_LARGE 6
 /* cv is NaN or infinite. */
 #define SPHEROIDAL_REFUSED_CHARACTERISTIC_VALUE 7
-/* Angular functions: x is NaN, below -1 or above 1. Radial ones: x is not zero of either sign. */
+/*
+ * Angular functions: x is NaN, below -1 or above 1. Both radial kinds: x is not zero of either sign.
+ * The first kind alone: x is NaN, infinite or below zero; -0.0 passes.
+ */
 #define SPHEROIDAL_REFUSED_ARGUMENT 8
 /* A lent buffer has fewer than n - m + 1 places (rows) or than 200 (coefficients). */
 #define SPHEROIDAL_REFUSED_BUFFER 9
 /* A value used up its allowance of steps. */
 #define SPHEROIDAL_REFUSED_ALLOWANCE 10
+/* The first kind with x > 0: 2N + m > 251, or c * x, in doubles, is above 200. */
+#define SPHEROIDAL_REFUSED_OFF_THE_DISC 11
+/* The first kind: a trial order of its Bessel functions lies outside 1 to 100000. None is known. */
+#define SPHEROIDAL_REFUSED_TRIAL_ORDER 12
 
 /* An answer's number in words. */
 static inline const char *spheroidal_refusal_sentence(uint8_t answer) {
@@ -93,11 +101,16 @@ static inline const char *spheroidal_refusal_sentence(uint8_t answer) {
     case SPHEROIDAL_REFUSED_CHARACTERISTIC_VALUE:
         return "the characteristic value is not finite";
     case SPHEROIDAL_REFUSED_ARGUMENT:
-        return "x is not a number from -1 to 1, or in radial functions not zero";
+        return "x is out of range: -1 to 1 if angular, zero for both radial kinds, finite and not below "
+               "zero for the first alone";
     case SPHEROIDAL_REFUSED_BUFFER:
         return "a lent buffer is too short";
     case SPHEROIDAL_REFUSED_ALLOWANCE:
         return "a value used up its allowance of steps";
+    case SPHEROIDAL_REFUSED_OFF_THE_DISC:
+        return "off the disc, where x is above zero, the mode or c * x is too large";
+    case SPHEROIDAL_REFUSED_TRIAL_ORDER:
+        return "a trial order of the Bessel functions is outside 1 to 100000";
     default:
         return "no answer of this library";
     }
@@ -109,6 +122,8 @@ static inline const char *spheroidal_refusal_sentence(uint8_t answer) {
 #define SPHEROIDAL_ROW_LIMIT 291.0         /* H stays below it in rows */
 #define SPHEROIDAL_LIMIT 175.0             /* H stays below it in all else */
 #define SPHEROIDAL_RADIAL_PLACES 200       /* N + m is at most this in radial functions */
+#define SPHEROIDAL_BESSEL_ORDER 251        /* 2N + m is at most this off the disc */
+#define SPHEROIDAL_BESSEL_ARGUMENT 200.0   /* c * x is at most this off the disc */
 #define SPHEROIDAL_ROW_PLACES 200          /* the most that a row needs in a buffer */
 #define SPHEROIDAL_COEFFICIENTS 200        /* what coefficients need in a buffer, always */
 #define SPHEROIDAL_LARGEST_ALLOWANCE 65535 /* the most steps that can be allowed */
@@ -219,6 +234,18 @@ uint8_t spheroidal_oblate_angular(uint16_t m, uint16_t n, double c, double cv, d
 uint8_t spheroidal_oblate_radial(uint16_t m, uint16_t n, double c, double cv, double x,
                                  double *value1, double *derivative1,
                                  double *value2, double *derivative2);
+
+/*
+ * The oblate radial function of the first kind of mode n and its derivative at x, on the disc and off
+ * it, with cv as above. x is any finite number from zero on; where it is above zero, 2N + m is at most
+ * 251 and c * x at most 200. At x of 0.0 and -0.0 it gives what spheroidal_oblate_radial gives.
+ *
+ * @ACCURACY@
+ *
+ * Writes *value and *derivative. Refusals: 4, 5, 6, 7, 8, 11, 12.
+ */
+uint8_t spheroidal_oblate_first_kind(uint16_t m, uint16_t n, double c, double cv, double x,
+                                     double *value, double *derivative);
 
 #ifdef __cplusplus
 }

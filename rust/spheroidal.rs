@@ -25,7 +25,7 @@ use std::error::Error;
 use std::fmt;
 
 /// The version, that of the header; which of its numbers moves when is said there.
-pub const VERSION: &str = "2.0.0";
+pub const VERSION: &str = "2.1.0";
 
 /// The largest m.
 pub const LARGEST_ORDER: u16 = 199;
@@ -37,6 +37,10 @@ pub const ROW_LIMIT: f64 = 291.0;
 pub const LIMIT: f64 = 175.0;
 /// What N + m is at most in radial functions; N is 25 plus (n − m)/2 + c cut to a whole number.
 pub const RADIAL_PLACES: usize = 200;
+/// What 2N + m is at most off the disc.
+pub const BESSEL_ORDER: usize = 251;
+/// What c · x, in doubles, is at most off the disc.
+pub const BESSEL_ARGUMENT: f64 = 200.0;
 /// The most places that a row needs.
 pub const ROW_PLACES: usize = 200;
 /// How many expansion coefficients there are.
@@ -83,7 +87,8 @@ pub struct Radial {
     pub second: Pair,
 }
 
-/// Why a call was refused. The first that applies in this order is the answer.
+/// Why a call was refused. The first that applies in this order is the answer. A `match` does well to
+/// have an arm for others: version 2.1 added the last two.
 #[derive(Clone, Copy, Debug, PartialEq, Eq, Hash)]
 pub enum Refusal {
     /// m > 199, n < m or n − m > 199.
@@ -94,12 +99,17 @@ pub enum Refusal {
     TooLarge,
     /// The characteristic value is NaN or infinite.
     CharacteristicValue,
-    /// x is NaN or outside −1 to 1, or not zero in radial functions.
+    /// x is NaN or outside −1 to 1 in angular functions, not zero in `radial`, and in `first_kind` NaN,
+    /// infinite or below zero.
     Argument,
     /// A lent slice is too short.
     Buffer,
     /// A value used up its allowance of steps.
     Allowance,
+    /// In `first_kind` with x above zero, 2N + m is above 251 or c · x above 200.
+    OffTheDisc,
+    /// In `first_kind`, a trial order of the Bessel functions is outside 1 to 100,000. None is known.
+    TrialOrder,
 }
 
 impl Refusal {
@@ -113,6 +123,8 @@ impl Refusal {
             Refusal::Argument => 8,
             Refusal::Buffer => 9,
             Refusal::Allowance => 10,
+            Refusal::OffTheDisc => 11,
+            Refusal::TrialOrder => 12,
         }
     }
 
@@ -125,9 +137,16 @@ impl Refusal {
                 "the mode is too large: (n - m)/2 + c, or in radial functions m beside it"
             }
             Refusal::CharacteristicValue => "the characteristic value is not finite",
-            Refusal::Argument => "x is not a number from -1 to 1, or in radial functions not zero",
+            Refusal::Argument => {
+                "x is out of range: -1 to 1 if angular, zero for both radial kinds, finite and not below \
+                 zero for the first alone"
+            }
             Refusal::Buffer => "a lent buffer is too short",
             Refusal::Allowance => "a value used up its allowance of steps",
+            Refusal::OffTheDisc => {
+                "off the disc, where x is above zero, the mode or c * x is too large"
+            }
+            Refusal::TrialOrder => "a trial order of the Bessel functions is outside 1 to 100000",
         }
     }
 }
@@ -307,6 +326,25 @@ pub fn radial(mode: Mode, cv: f64, x: f64) -> Result<Radial, Refusal> {
     Ok(Radial { first, second })
 }
 
+/// The oblate radial function of the first kind of mode n with the characteristic value cv, at a finite
+/// x from zero on: on the disc and off it. @ACCURACY@
+pub fn first_kind(mode: Mode, cv: f64, x: f64) -> Result<Pair, Refusal> {
+    let [mut value, mut derivative] = [0.0; 2];
+    // SAFETY: both places are this function's own.
+    answer(unsafe {
+        library::spheroidal_oblate_first_kind(
+            mode.m,
+            mode.n,
+            mode.c,
+            cv,
+            x,
+            &mut value,
+            &mut derivative,
+        )
+    })?;
+    Ok(Pair { value, derivative })
+}
+
 /// How many places a row needs; a mode whose numbers the library refuses gets some that it does not
 /// use.
 fn places(mode: Mode) -> usize {
@@ -323,7 +361,9 @@ fn answer(number: u8) -> Result<(), Refusal> {
         8 => Err(Refusal::Argument),
         9 => Err(Refusal::Buffer),
         10 => Err(Refusal::Allowance),
-        _ => unreachable!("the library answers 0 or 4 to 10"),
+        11 => Err(Refusal::OffTheDisc),
+        12 => Err(Refusal::TrialOrder),
+        _ => unreachable!("the library answers 0 or 4 to 12"),
     }
 }
 
@@ -423,6 +463,15 @@ mod library {
             derivative1: *mut f64,
             value2: *mut f64,
             derivative2: *mut f64,
+        ) -> u8;
+        pub fn spheroidal_oblate_first_kind(
+            m: u16,
+            n: u16,
+            c: f64,
+            cv: f64,
+            x: f64,
+            value: *mut f64,
+            derivative: *mut f64,
         ) -> u8;
     }
 }

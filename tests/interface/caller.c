@@ -7,7 +7,7 @@
 
 #include "spheroidal.h"
 
-#if SPHEROIDAL_VERSION_MAJOR < 2
+#if SPHEROIDAL_VERSION_MAJOR * 100 + SPHEROIDAL_VERSION_MINOR < 201
 #error "this header is too old"
 #endif
 
@@ -20,7 +20,8 @@ int main(void) {
     uint8_t substituted[SPHEROIDAL_ROW_PLACES];
 
     printf("version %s\n", SPHEROIDAL_VERSION);
-    for (number = SPHEROIDAL_REFUSED_MODE_NUMBERS; number <= SPHEROIDAL_REFUSED_ALLOWANCE; number++) {
+    for (number = SPHEROIDAL_REFUSED_MODE_NUMBERS; number <= SPHEROIDAL_REFUSED_TRIAL_ORDER;
+         number++) {
         printf("refused %d: %s\n", number, spheroidal_refusal_sentence(number));
     }
     for (m = 0; m <= SPHEROIDAL_LARGEST_ORDER; m++) {
@@ -42,6 +43,16 @@ int main(void) {
             if (substituted[j]) {
                 fprintf(stderr, "zero pivot: m %d, n %d, place %zu\n", m, n, j);
             }
+        }
+        answer = spheroidal_oblate_row(m, n, 2.5, SPHEROIDAL_LARGEST_ALLOWANCE, values, places, steps,
+                                       places, lowers, places, uppers, places, substituted, places);
+        if (answer == SPHEROIDAL_OK) {
+            double value, derivative;
+            answer = spheroidal_oblate_first_kind(m, n, 2.5, values[n - m], 1.5, &value, &derivative);
+        }
+        if (answer != SPHEROIDAL_OK && answer != SPHEROIDAL_REFUSED_TOO_LARGE) {
+            fprintf(stderr, "refused %d: %s\n", answer, spheroidal_refusal_sentence(answer));
+            return answer;
         }
     }
     return 0;

@@ -48,6 +48,13 @@ struct radial_call {
     uint64_t value1, derivative1, value2, derivative2;
 };
 
+struct first_kind_call {
+    uint16_t m, n;
+    uint64_t c, cv, x;
+    uint8_t answer;
+    uint64_t value, derivative;
+};
+
 #include "expected.h"
 
 #define COUNT(array) (sizeof(array) / sizeof(array)[0])
@@ -300,6 +307,21 @@ static void check_radial(size_t number, int fill) {
     check(doubles_right(blocks[3], fill, &call->derivative2, count), name, number, "derivative2");
 }
 
+static void check_first_kind(size_t number, int fill) {
+    static double value[BLOCK], derivative[BLOCK];
+    const struct first_kind_call *call = &first_kind_calls[number];
+    size_t count = call->answer == SPHEROIDAL_OK ? 1 : 0;
+    const char *name = "oblate first kind";
+    uint8_t answer;
+    memset(value, fill, sizeof value);
+    memset(derivative, fill, sizeof derivative);
+    answer = spheroidal_oblate_first_kind(call->m, call->n, double_of(call->c), double_of(call->cv),
+                                          double_of(call->x), value + GUARD, derivative + GUARD);
+    check(answer == call->answer, name, number, "answer");
+    check(doubles_right(value, fill, &call->value, count), name, number, "value");
+    check(doubles_right(derivative, fill, &call->derivative, count), name, number, "derivative");
+}
+
 /* One row with buffers of one length, for the limits. */
 static uint8_t plain_row(uint16_t m, uint16_t n, double c, size_t length) {
     static double values[LONGEST], lowers[LONGEST], uppers[LONGEST];
@@ -315,6 +337,7 @@ static void check_limits(void) {
     const uint16_t m = SPHEROIDAL_LARGEST_ORDER;
     const uint16_t n = SPHEROIDAL_LARGEST_ORDER + SPHEROIDAL_LARGEST_OFFSET;
     const uint16_t radial = SPHEROIDAL_RADIAL_PLACES - 25;
+    const double bessel = (SPHEROIDAL_BESSEL_ORDER - 1) / 2 - 25; /* c, with m = n = 1 */
     const size_t places = SPHEROIDAL_ROW_PLACES;
     double a, b, c, d;
     const char *name = "limits";
@@ -348,6 +371,21 @@ static void check_limits(void) {
           name, 12, "more radial places");
     check(spheroidal_oblate_angular(0, 0, 1.0, 0.0, 1.5, &a, &b) == SPHEROIDAL_REFUSED_ARGUMENT, name,
           13, "x above 1");
+    check(spheroidal_oblate_first_kind(1, 1, bessel, 0.0, 1.0, &a, &b) == SPHEROIDAL_OK, name, 14,
+          "largest Bessel order");
+    check(spheroidal_oblate_first_kind(1, 1, bessel + 1, 0.0, 1.0, &a, &b) ==
+              SPHEROIDAL_REFUSED_OFF_THE_DISC,
+          name, 15, "a higher Bessel order");
+    check(spheroidal_oblate_first_kind(1, 1, bessel + 1, 0.0, 0.0, &a, &b) == SPHEROIDAL_OK, name, 16,
+          "the same on the disc");
+    check(spheroidal_oblate_first_kind(0, 0, 1.0, 0.0, SPHEROIDAL_BESSEL_ARGUMENT, &a, &b) ==
+              SPHEROIDAL_OK,
+          name, 17, "largest Bessel argument");
+    check(spheroidal_oblate_first_kind(0, 0, 1.0, 0.0, SPHEROIDAL_BESSEL_ARGUMENT + 0.5, &a, &b) ==
+              SPHEROIDAL_REFUSED_OFF_THE_DISC,
+          name, 18, "a larger Bessel argument");
+    check(spheroidal_oblate_first_kind(0, 0, 1.0, 0.0, -0.5, &a, &b) == SPHEROIDAL_REFUSED_ARGUMENT,
+          name, 19, "x below zero");
 }
 
 /* The version's string and its numbers, and a sentence for each number, its own for each answer. */
@@ -362,7 +400,7 @@ static void check_words(void) {
     for (number = 0; number < 256; number++) {
         const char *sentence = spheroidal_refusal_sentence((uint8_t)number);
         int known = number == SPHEROIDAL_OK || (number >= SPHEROIDAL_REFUSED_MODE_NUMBERS &&
-                                                number <= SPHEROIDAL_REFUSED_ALLOWANCE);
+                                                number <= SPHEROIDAL_REFUSED_TRIAL_ORDER);
         int right = (strcmp(sentence, unknown) != 0) == known;
         for (other = 0; known && other < number; other++) {
             right = right && strcmp(sentence, spheroidal_refusal_sentence((uint8_t)other)) != 0;
@@ -386,6 +424,9 @@ int main(void) {
         }
         for (at = 0; at < COUNT(radial_calls); at++) {
             check_radial(at, fills[fill]);
+        }
+        for (at = 0; at < COUNT(first_kind_calls); at++) {
+            check_first_kind(at, fills[fill]);
         }
     }
     check_limits();

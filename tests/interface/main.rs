@@ -138,7 +138,8 @@ fn lines(record: &Record, request: Request) -> String {
         Request::Radial => spheroidal::radial(mode, cv, x).map(|Radial { first, second }| {
             format!("F 0 {m} {n} {} {}\n", pair_words(first), pair_words(second))
         }),
-        Request::FirstKind => unreachable!("the wrapper has no call for operation 8"),
+        Request::FirstKind => spheroidal::first_kind(mode, cv, x)
+            .map(|pair| format!("G 0 {m} {n} {}\n", pair_words(pair))),
     };
     answer.unwrap_or_else(|refusal| format!("R 0 {}\n", refusal.number()))
 }
@@ -210,10 +211,6 @@ impl Tallies {
         let Some(request) = Request::of_operation(record.operation) else {
             return;
         };
-        // The wrapper has no call for operation 8.
-        if request == Request::FirstKind {
-            return;
-        }
         let theirs = answer::record_lines(Build::PowerRule, 0, record);
         let ours = lines(record, request);
         self.answers.count(ours == theirs, || {
@@ -336,6 +333,7 @@ impl Tallies {
     fn check_errors(&mut self) {
         let mode = |m, n, c| Mode { m, n, c };
         let angular = |mode, cv, x| spheroidal::angular(Kind::Oblate, mode, cv, x).err();
+        let first = |mode, cv, x| spheroidal::first_kind(mode, cv, x).err();
         let refusals = [
             (
                 angular(mode(200, 200, 1.0), 0.0, 0.0),
@@ -367,6 +365,12 @@ impl Tallies {
                 spheroidal::row(Kind::Oblate, mode(0, 0, 1.0), 0).err(),
                 Refusal::Allowance,
                 10,
+            ),
+            (first(mode(0, 0, 1.0), 0.0, -1.0), Refusal::Argument, 8),
+            (
+                first(mode(0, 0, 1.0), 0.0, 2.0 * spheroidal::BESSEL_ARGUMENT),
+                Refusal::OffTheDisc,
+                11,
             ),
         ];
         for (answer, refusal, number) in refusals {

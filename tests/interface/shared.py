@@ -1,5 +1,5 @@
 #!/usr/bin/env python3
-"""Loads the shared library and holds rows and refusals of it against the record program.
+"""Loads the shared library and holds rows, first kinds and refusals of it against the record program.
 
 Usage: tests/interface/shared.py LIBRARY PROGRAM. Status 1: something differs.
 """
@@ -11,6 +11,8 @@ import sys
 ALLOWANCE = 65535
 # The operation, its function, m, n and c; the second row meets a zero pivot.
 ROWS = [(2, "spheroidal_oblate_row", 0, 4, 2.5), (1, "spheroidal_prolate_row", 0, 2, 1e-5)]
+# m, n, c, cv and x of the first kind, off the disc and on it; the last two are refused.
+FIRST_KINDS = [(0, 4, 2.5, 16.9, 1.5), (3, 3, 1.0, 12.0, -0.0), (1, 1, 1.0, 2.0, 201.0), (1, 1, 1.0, 2.0, -1.0)]
 BUFFERS = (ctypes.c_double, ctypes.c_uint16, ctypes.c_double, ctypes.c_double, ctypes.c_uint8)
 
 
@@ -31,9 +33,13 @@ def lines(m, values, steps, lowers, uppers, substituted):
         yield f"Z 0 {mode} {flag}"
 
 
+def printed_by(program, operation, m, n, c, cv=0.0, x=0.0):
+    record = b"SW" + struct.pack("<BHHHddd", operation, m, n, ALLOWANCE, c, cv, x)
+    return subprocess.run([program], input=record, capture_output=True, check=True).stdout.decode()
+
+
 def same(library, program, operation, name, m, n, c):
-    record = b"SW" + struct.pack("<BHHHddd", operation, m, n, ALLOWANCE, c, 0.0, 0.0)
-    printed = subprocess.run([program], input=record, capture_output=True, check=True).stdout.decode()
+    printed = printed_by(program, operation, m, n, c)
     function, places = getattr(library, name), n - m + 1
     number, buffers = call(function, m, n, c, places)
     short, untouched = call(function, m, n, c, places - 1)
@@ -41,5 +47,17 @@ def same(library, program, operation, name, m, n, c):
     return answered and short == 9 and not any(map(any, untouched))
 
 
+def same_first_kind(library, program, m, n, c, cv, x):
+    function, pair = library.spheroidal_oblate_first_kind, [ctypes.c_double(), ctypes.c_double()]
+    function.argtypes = [ctypes.c_uint16] * 2 + [ctypes.c_double] * 3 + [ctypes.POINTER(ctypes.c_double)] * 2
+    function.restype = ctypes.c_uint8
+    number = function(m, n, c, cv, x, *map(ctypes.byref, pair))
+    words = " ".join(struct.pack(">d", place.value).hex() for place in pair)
+    line = f"R 0 {number}\n" if number else f"G 0 {m} {n} {words}\n"
+    return line == printed_by(program, 8, m, n, c, cv, x)
+
+
 library, program = ctypes.CDLL(sys.argv[1]), sys.argv[2]
-sys.exit(0 if all(same(library, program, *row) for row in ROWS) else 1)
+right = [same(library, program, *row) for row in ROWS]
+right += [same_first_kind(library, program, *call) for call in FIRST_KINDS]
+sys.exit(0 if all(right) else 1)

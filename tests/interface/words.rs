@@ -15,6 +15,8 @@ fn main() {
         Refusal::Argument,
         Refusal::Buffer,
         Refusal::Allowance,
+        Refusal::OffTheDisc,
+        Refusal::TrialOrder,
     ];
     for refusal in refusals {
         println!("{refusal}");
