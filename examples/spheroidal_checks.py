@@ -106,3 +106,70 @@ def angular_errors(kind, m, n, c, cv, d, xs, pairs):
 def wronskian_error(c, first, second):
     """c (R1 R2' - R1' R2) - 1 from the pairs of both kinds. On the disc it is zero."""
     return abs(c * (first[0] * second[1] - first[1] * second[0]) - 1)
+
+
+ROUNDING = 1e-15
+
+
+def first_kind_sum(m, n, c, d, x):
+    """The first oblate kind and its derivative at x from zero on, as sums of d over spherical Bessel
+    functions j, and the sizes of the terms in units of the sums; the value's first. It is formed from
+    quotients of neighbouring j over x, so that nothing cancels near the disc, unlike in the library."""
+    used = [i for i, value in enumerate(d) if value] or [0]
+    odd, count = (n - m) % 2, m + 2 * used[-1] + 3
+    quotients, above = [], 0.0  # of degrees l + 1 and l, over x
+    for l in range(count + int(c * x) + 60, -1, -1):
+        above = c / ((2 * l + 3 - c * x * x * above) or ROUNDING)
+        quotients.append(above)
+    quotients.reverse()
+    root, scale = math.hypot(1, x), math.sin(c * x) / (c * x) if c * x else 1.0
+    scale *= math.prod(root * quotient for quotient in quotients[:m])
+    term, before, weight = 1.0, 0.0, 1.0  # j of degree m + r over that of degree m, and of one less over x
+    values, slopes, weights = [], [], []
+    for r in range(0, 2 * used[-1] + odd + 1):
+        if r % 2 == odd:
+            factor = d[r // 2] * weight * (-1) ** ((n - m - r) // 2)
+            values.append(factor * term)
+            slopes += [factor * r * before, -factor * c * x * quotients[m + r] * term]
+            weights.append(d[r // 2] * weight)
+        before = quotients[m + r] * term
+        term = x * before
+        weight *= (2 * m + r + 1) / (r + 1)
+    whole, value = sum(weights), sum(values)
+    around = m * x / root / root
+    slope = sum(slopes) + around * value
+    sizes = [sum(map(abs, values)), sum(map(abs, slopes)) + around * sum(map(abs, values))]
+    lost = ratio(sum(map(abs, weights)), abs(whole))
+    pair = [ratio(scale * value, whole), ratio(scale * slope, whole)]
+    return pair, [ratio(sizes[0], abs(value)) + lost, ratio(sizes[1], abs(slope)) + lost]
+
+
+def first_kind_sizes(m, c, cv, x, pair):
+    """What errors of value and derivative are held against: the number itself, or, where the function
+    oscillates and passes through zero, its amplitude."""
+    value, slope = map(abs, pair)
+    root = math.hypot(1, x)
+    square = (c * x / root) * (c * x / root) + ((m / root) * (m / root) - cv) / root / root
+    if square <= 0:
+        return value, slope
+    wave = math.sqrt(square)
+    amplitude = min(1.0, wave * x) * math.hypot(value, slope / wave)
+    return max(value, amplitude), max(slope, wave * amplitude)
+
+
+def first_kind_error(m, n, c, cv, d, x, pair):
+    """The error of a pair of the first oblate kind's value and derivative at x, the larger of both."""
+    sums, lost = first_kind_sum(m, n, c, d, x)
+    uncertain = ROUNDING + recurrence_error("oblate", m, n, c, cv, d)
+    sizes = first_kind_sizes(m, c, cv, x, sums)
+    errors = []
+    for answer, true, size, terms in zip(pair, sums, sizes, lost):
+        zero = answer == 0 and true == 0  # as one of the two is on the disc
+        errors.append(0.0 if zero else ratio(abs(answer - true) + uncertain * terms * abs(true), size))
+    return max(errors, key=lambda error: math.inf if math.isnan(error) else error)
+
+
+def first_kind_cancellation(m, x, pair):
+    """What is lost where the derivative's two parts, of which one is m/(x (x x + 1)) times the value,
+    nearly cancel; without d."""
+    return ratio(ROUNDING * m * abs(pair[0]), x * (x * x + 1) * abs(pair[1])) if x and m else 0.0

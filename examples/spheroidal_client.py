@@ -5,13 +5,14 @@
     spheroidal_client.py dlmf prolate m=1 n=6 c=10
     spheroidal_client.py angular oblate m=0 n=4 c=2.5 x=-1:1:9
     spheroidal_client.py radial oblate m=0 n=2 c=1
+    spheroidal_client.py first oblate m=0 n=2 c=1 x=0:5:11
 
 m is the order, n the degree, c the size parameter. dlmf is the row with each value less c * c: for
 oblate modes this is not DLMF's eigenvalue, which is the value plus c * c. x is one number or
-start:stop:count; radial functions are asked on the disc, x=0, which may be left out. cv is the
-characteristic value: where it is left out, it is taken from the mode's row. allowance is the most
-steps for each value of a row, 65535 if left out. A number is decimal, or 0x and the 16 digits of a
-double's bits.
+start:stop:count. radial is both oblate radial functions on the disc, x=0, which may be left out; first
+is the first of them alone, at any finite x from zero on, with c x up to 200. cv is the characteristic
+value: where it is left out, it is taken from the mode's row. allowance is the most steps for each value
+of a row, 65535 if left out. A number is decimal, or 0x and the 16 digits of a double's bits.
 
 In a row, zero pivot says whether 1e-30 was put in for a pivot of zero while the value was bisected.
 That is no error, and common at small c.
@@ -46,26 +47,44 @@ OPERATIONS = {
     ("radial", "oblate"): 5,
     ("dlmf", "prolate"): 6,
     ("dlmf", "oblate"): 7,
+    ("first", "oblate"): 8,
 }
 # The keys that each request needs, and those that may be left out.
-NEEDED = {"row": "m n c", "dlmf": "m n c", "angular": "m n c x", "radial": "m n c"}
-OPTIONAL = {"row": "allowance", "dlmf": "allowance", "angular": "cv allowance", "radial": "cv x allowance"}
+NEEDED = {"row": "m n c", "dlmf": "m n c", "angular": "m n c x", "radial": "m n c", "first": "m n c x"}
+OPTIONAL = {
+    "row": "allowance",
+    "dlmf": "allowance",
+    "angular": "cv allowance",
+    "radial": "cv x allowance",
+    "first": "cv allowance",
+}
+# What the functions are called.
+NAMES = {"angular": "angular function", "radial": "radial functions", "first": "first-kind radial function"}
 # Why an operation is refused; where it matters, a sentence for each operation.
+RADIAL_LIMIT = "(n - m)/2 + c is 175 or more, or its whole part and m together are above 175"
 REFUSALS = {
+    3: "the record program does not know this operation: it may be older than this client",
     4: "m is above 199, n is below m, or n - m is above 199",
     5: "c is not a finite number from zero on",
     6: {
         "row": "(n - m)/2 + c is 291 or more",
         "dlmf": "(n - m)/2 + c is 291 or more",
         "angular": "(n - m)/2 + c is 175 or more",
-        "radial": "(n - m)/2 + c is 175 or more, or its whole part and m together are above 175",
+        "radial": RADIAL_LIMIT,
+        "first": RADIAL_LIMIT,
     },
     7: "cv is not a finite number",
-    8: {"angular": "x is not a number from -1 to 1", "radial": "x is not zero"},
+    8: {
+        "angular": "x is not a number from -1 to 1",
+        "radial": "x is not zero",
+        "first": "x is not a finite number from zero on",
+    },
     10: "a value used up its allowance of steps",
+    11: "off the disc c x is above 200, or twice the whole part of (n - m)/2 + c and m together are above 201",
+    12: "a trial order of the Bessel functions is outside 1 to 100000",
 }
 # How many words follow the record's number on a line.
-WORDS = {"V": 5, "Z": 2, "D": 2, "A": 4, "F": 6, "R": 1}
+WORDS = {"V": 5, "Z": 2, "D": 2, "A": 4, "F": 6, "G": 4, "R": 1}
 # What the last word of a line Z means.
 ZERO_PIVOT = {"0": "no", "1": "yes"}
 MADE_BY = "The record program is made by: ./build"
@@ -216,6 +235,10 @@ def errors_of(program, what, kind, fields, cv, d, answers):
     if what == "radial":
         unfit = checks.recurrence_error(kind, m, n, c, cv, d) if d else 0.0
         return [(x, checks.wronskian_error(c, four[:2], four[2:]) + unfit) for x, four in answers]
+    if what == "first":
+        if d:
+            return [(x, checks.first_kind_error(m, n, c, cv, d, x, pair)) for x, pair in answers]
+        return [(x, checks.first_kind_cancellation(m, x, pair)) for x, pair in answers]
     if d:
         return list(zip(xs, checks.angular_errors(kind, m, n, c, cv, d, xs, numbers)))
     [[words]] = ask(program, [record(OPERATIONS[what, kind], fields, cv)])
@@ -269,10 +292,10 @@ def plot(pyplot, path, title, xs, values):
 def run(options):
     what, kind = options.what, options.kind
     if (what, kind) not in OPERATIONS:
-        raise Misunderstood(f"there are no {kind} {what} functions here, only oblate ones")
+        raise Misunderstood(f"there are no {kind} radial functions here, only oblate ones")
     fields = fields_of(what, options.words)
-    if options.plot and (what != "angular" or len(fields["x"]) < 2):
-        raise Misunderstood("--plot is for angular functions with x=start:stop:count")
+    if options.plot and (what not in ("angular", "first") or len(fields["x"]) < 2):
+        raise Misunderstood("--plot is for angular and first with x=start:stop:count")
     pyplot = plotter() if options.plot else None
     program = options.program or os.environ.get("SPHEROIDAL") or str(PROGRAM)
     library = options.library or os.environ.get("SPHEROIDAL_LIBRARY") or str(LIBRARY)
@@ -300,8 +323,7 @@ def run(options):
         cv = double(ask_row(program, "row", kind, fields)[-1][3])
     xs = fields.get("x", [0.0])
     answers = ask(program, [record(OPERATIONS[what, kind], fields, cv, x) for x in xs])
-    functions = "function" if what == "angular" else "functions"
-    title = f"{kind.capitalize()} {what} {functions} of mode {fields['n']} with {mode}"
+    title = f"{kind.capitalize()} {NAMES[what]} of mode {fields['n']} with {mode}"
     heads = ["x", "value", "derivative"]
     if what == "radial":
         heads = ["x", "first kind", "derivative", "second kind", "derivative"]
@@ -331,7 +353,7 @@ def main():
     parser.add_argument("kind", choices=["prolate", "oblate"])
     parser.add_argument("words", nargs="*", metavar="key=value")
     parser.add_argument("--bits", action="store_true", help="print doubles as the 16 digits of their bits")
-    parser.add_argument("--plot", metavar="FILE", help="plot an angular function (needs matplotlib)")
+    parser.add_argument("--plot", metavar="FILE", help="plot an angular function or a first kind (needs matplotlib)")
     parser.add_argument("--program", help="the record program; by default SPHEROIDAL or target/bin/spheroidal")
     parser.add_argument("--library", help="the library for the checks; by default SPHEROIDAL_LIBRARY or what ./build makes")
     try:
