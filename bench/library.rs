@@ -67,3 +67,9 @@ pub fn radial(record: &Record) -> [f64; 4] {
         second.derivative,
     ]
 }
+
+pub fn first_kind(record: &Record) -> [f64; 2] {
+    let answer = spheroidal::first_kind(mode_of(record), record.cv, record.x);
+    let pair = accepted(answer, record);
+    [pair.value, pair.derivative]
+}

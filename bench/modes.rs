@@ -15,6 +15,7 @@ use oracle::record::{Kind, Record, same};
 const ROUND: f64 = 0.005;
 
 const ANGULAR_AT: [f64; 3] = [0.3, 0.9, 1.0];
+const FIRST_KIND_AT: [f64; 3] = [0.1, 1.0, 10.0];
 
 #[derive(Clone, Copy, Debug)]
 enum Size {
@@ -72,6 +73,15 @@ const DISC: [Mode; 7] = [
     mode(Largest, Kind::Oblate, 0, 199, 75.0),
     mode(Largest, Kind::Oblate, 100, 150, 50.0),
     mode(Largest, Kind::Oblate, 170, 175, 1.0),
+];
+
+/// Of the first kind off the disc, where 2N + m is at most 251 and c x at most 200.
+const OFF_DISC: [Mode; 5] = [
+    mode(Smallest, Kind::Oblate, 0, 0, 1.0),
+    mode(Small, Kind::Oblate, 0, 5, 5.0),
+    mode(Middle, Kind::Oblate, 10, 40, 15.0),
+    mode(Largest, Kind::Oblate, 0, 170, 15.0),
+    mode(Largest, Kind::Oblate, 60, 150, 15.0),
 ];
 
 impl Mode {
@@ -146,7 +156,7 @@ impl Table {
         self.missed += usize::from(verdict == "MISSED");
         let each = calls as f64;
         println!(
-            "| {:<14} | {:<8} | {:<25} | {:>8} | {:>8} | {:>5} | {:<24} | {:>6} | {:<6} |",
+            "| {:<17} | {:<8} | {:<25} | {:>8} | {:>8} | {:>5} | {:<24} | {:>6} | {:<6} |",
             call,
             format!("{:?}", mode.size).to_lowercase(),
             mode.name(),
@@ -223,6 +233,28 @@ fn main() {
             rust,
             rust,
         );
+    }
+    for mode in &OFF_DISC {
+        let records = mode.records();
+        for x in FIRST_KIND_AT {
+            let records: Vec<Record> = records
+                .iter()
+                .map(|record| Record { x, ..*record })
+                .collect();
+            // The unaltered text has its own powers, sine, cosine and logarithm, whose last bits may
+            // be others than ours: it is timed, and the build that calls ours is compared.
+            let rust = |record: &Record| answer::first_kind(Build::Unaltered, record);
+            let served = |record: &Record| answer::first_kind(Build::PowerRule, record);
+            table.line(
+                &format!("first kind at {x}"),
+                mode,
+                None,
+                &records,
+                library::first_kind,
+                rust,
+                served,
+            );
+        }
     }
     println!("\n{} targets met, {} missed", table.met, table.missed);
 }

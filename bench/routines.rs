@@ -1,5 +1,6 @@
 //! Times the ported routines beside the Rust's, one by one, both sides in turn in one process.
 
+#[allow(dead_code)]
 #[path = "../tests/routines/library.rs"]
 mod library;
 #[allow(dead_code)]
@@ -8,11 +9,12 @@ mod measure;
 use std::hint::black_box;
 
 use library::{
-    routines_aswfa, routines_cbk, routines_kmn, routines_qstar, routines_sckb, routines_sdmn,
+    routines_aswfa, routines_cbk, routines_kmn, routines_msta1, routines_msta2, routines_qstar,
+    routines_sckb, routines_sdmn, routines_sphj,
 };
 use measure::{Measured, seconds, short, time};
 use oracle::answer::{self, Build};
-use oracle::reading::half_offset_plus_c;
+use oracle::reading::{half_offset_plus_c, highest_order};
 use oracle::record::{Kind, Record};
 
 const ROUNDS: usize = 15;
@@ -147,6 +149,46 @@ fn report_disc(m: u16, n: u16, c: f64, times: usize) {
     );
 }
 
+/// The spherical Bessel functions of the first kind off the disc, and the two searches for an order
+/// that they begin with. The unaltered Rust, with its own sine, cosine and logarithm.
+fn report_bessel(m: u16, n: u16, c: f64, x: f64, times: usize) {
+    let (z, highest) = (c * x, highest_order(m, n, c));
+    let order = highest as u32;
+    let (mut sj, mut dj) = ([0.0; 252], [0.0; 252]);
+    println!("| Oblate m {m} n {n} c {c} x {x}, order {order} | | | | | |");
+    compare(
+        "msta1",
+        times,
+        || {
+            black_box(routines_msta1(black_box(z), 200));
+        },
+        || {
+            black_box(answer::msta1(Build::Unaltered, black_box(z), 200));
+        },
+    );
+    compare(
+        "msta2",
+        times,
+        || {
+            black_box(routines_msta2(black_box(z), order, 15));
+        },
+        || {
+            black_box(answer::msta2(Build::Unaltered, black_box(z), highest, 15));
+        },
+    );
+    compare(
+        "sphj",
+        times,
+        || {
+            let (sj, dj) = (black_box(&mut sj), black_box(&mut dj));
+            black_box(routines_sphj(black_box(z), order, sj, dj));
+        },
+        || {
+            black_box(answer::sphj(Build::Unaltered, black_box(z), highest));
+        },
+    );
+}
+
 fn main() {
     println!("The ported routines, {ROUNDS} rounds in turn.\n");
     println!("| mode | routine | ours | Rust | ratio | times as fast |");
@@ -162,4 +204,9 @@ fn main() {
     report_disc(30, 60, 40.0, 200);
     report_disc(100, 150, 50.0, 50);
     report_disc(0, 199, 75.0, 20);
+    report_bessel(0, 0, 1.0, 0.1, 10_000);
+    report_bessel(0, 0, 1.0, 10.0, 10_000);
+    report_bessel(10, 40, 15.0, 1.0, 5_000);
+    report_bessel(0, 170, 15.0, 1.0, 5_000);
+    report_bessel(0, 170, 15.0, 10.0, 5_000);
 }

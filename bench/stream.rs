@@ -50,7 +50,7 @@ fn refused(number: usize) -> Record {
 fn refused_in_turn(number: usize) -> Record {
     match number % 6 {
         0 => Record {
-            operation: 8,
+            operation: 9,
             ..NOTHING
         },
         1 => refused(number),
@@ -111,6 +111,14 @@ fn radial(number: usize) -> Record {
     }
 }
 
+fn first_kind(number: usize) -> Record {
+    Record {
+        operation: 8,
+        x: (number % 1000) as f64 / 100.0,
+        ..with_value(mode(number), Kind::Oblate)
+    }
+}
+
 /// A run's time, its start included. The stream is the file's.
 fn run(program: &str, sink: Sink) -> f64 {
     let input = File::open(STREAM).expect("the stream was written");
@@ -152,7 +160,7 @@ fn report(name: &str, count: usize, record: fn(usize) -> Record, target: Option<
         let measured = Measured::rounds(ROUNDS, || run(OURS, sink), || run(ORACLE, sink));
         let megabytes = |bytes: usize| bytes as f64 / 1e6 / measured.ours;
         println!(
-            "| {name:<20} | {sink_name:<7} | {:>6} | {:>6} | {:>9} | {:<24} | {:<4} | {:<6} |",
+            "| {name:<23} | {sink_name:<7} | {:>6} | {:>6} | {:>9} | {:<24} | {:<4} | {:<6} |",
             short(megabytes(stream.len())),
             short(megabytes(printed.len())),
             format!("{:.0}", count as f64 / 1e3 / measured.ours),
@@ -180,4 +188,5 @@ fn main() {
     report("angular, small modes", 50_000, angular, None);
     report("row, small modes", 10_000, row, None);
     report("radial, small modes", 20_000, radial, None);
+    report("first kind, small modes", 20_000, first_kind, None);
 }

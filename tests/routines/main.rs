@@ -154,13 +154,13 @@ impl Tallies {
     fn compare_off_disc(&mut self, record: &Record, df: &Places) {
         let Record { m, n, c, x, .. } = *record;
         let highest = highest_order(m, n, c);
-        for order in [highest, 0, 1, 2, 251] {
-            if c * x >= 1e-100 && order >= 2 && orders::search(c * x, order).is_err() {
+        for order in [highest, 2, 251] {
+            if c * x >= 1e-100 && orders::search(c * x, order).is_err() {
                 continue;
             }
             let (mut sj, mut dj) = ([0.0; 252], [0.0; 252]);
             let ours = routines_sphj(c * x, order as u32, &mut sj, &mut dj);
-            let (theirs, rust_sj, rust_dj) = answer::sphj(c * x, order);
+            let (theirs, rust_sj, rust_dj) = answer::sphj(Build::PowerRule, c * x, order);
             let (ours, theirs) = (f64::from(ours), f64::from(theirs));
             let ours = [&[ours], &sj[..], &dj[..]].concat();
             let theirs = [&[theirs], &rust_sj[..], &rust_dj[..]].concat();
@@ -186,7 +186,7 @@ impl Tallies {
             };
             let n = random.between(1, 251);
             let order = match orders::msta1(x, FIRST_MAGNITUDE as i32) {
-                Ok(_) => answer::msta1(x, FIRST_MAGNITUDE as i32),
+                Ok(_) => answer::msta1(Build::PowerRule, x, FIRST_MAGNITUDE as i32),
                 Err(_) => 0,
             };
             let ours = routines_msta1(x, FIRST_MAGNITUDE);
@@ -194,7 +194,7 @@ impl Tallies {
                 format!("x {x:?}: ours {ours} Rust {order}")
             });
             let order = match orders::msta2(x, i32::from(n), DIGITS as i32) {
-                Ok(_) => answer::msta2(x, i32::from(n), DIGITS as i32),
+                Ok(_) => answer::msta2(Build::PowerRule, x, i32::from(n), DIGITS as i32),
                 Err(_) => 0,
             };
             let ours = routines_msta2(x, u32::from(n), DIGITS);

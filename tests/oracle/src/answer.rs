@@ -86,20 +86,30 @@ pub type BesselPlaces = [f64; 252];
 
 /// Spherical Bessel functions up to order n and their derivatives by `sphj`, and the highest order
 /// computed; places above it are zero.
-pub fn sphj(x: f64, n: i32) -> (i32, BesselPlaces, BesselPlaces) {
+pub fn sphj(build: Build, x: f64, n: i32) -> (i32, BesselPlaces, BesselPlaces) {
     let (mut highest, mut sj, mut dj) = (0, [0.0; 252], [0.0; 252]);
-    served::sphj(x, n, &mut highest, &mut sj, &mut dj);
+    let sphj = match build {
+        Build::Unaltered => unaltered::sphj,
+        Build::PowerRule => served::sphj,
+    };
+    sphj(x, n, &mut highest, &mut sj, &mut dj);
     (highest, sj, dj)
 }
 
 /// The order by `msta1`; with refusal 12 applying it may panic.
-pub fn msta1(x: f64, mp: i32) -> i32 {
-    served::msta1(x, mp)
+pub fn msta1(build: Build, x: f64, mp: i32) -> i32 {
+    match build {
+        Build::Unaltered => unaltered::msta1(x, mp),
+        Build::PowerRule => served::msta1(x, mp),
+    }
 }
 
 /// The order by `msta2`; with refusal 12 applying it may panic.
-pub fn msta2(x: f64, n: i32, mp: i32) -> i32 {
-    served::msta2(x, n, mp)
+pub fn msta2(build: Build, x: f64, n: i32, mp: i32) -> i32 {
+    match build {
+        Build::Unaltered => unaltered::msta2(x, n, mp),
+        Build::PowerRule => served::msta2(x, n, mp),
+    }
 }
 
 /// The expansion coefficients by `sdmn`.

@@ -2,7 +2,6 @@
 //! both files.
 
 use super::{SPECFUN_INF, Status, lpmns, lqmns, sphy, try_zeroed};
-use bessel::sphj;
 
 #[allow(warnings)]
 #[path = "../../../../../target/oracle/unaltered/bessel.rs"]
@@ -11,6 +10,7 @@ mod bessel;
 #[path = "../../../../../target/oracle/unaltered/sphd.rs"]
 mod sphd;
 
+pub(crate) use bessel::{msta1, msta2, sphj};
 pub(crate) use sphd::{
     aswfa, cbk_places, kmn_factor, qstar_pair, rswfo, sckb_places, sdmn_places, segv,
 };
