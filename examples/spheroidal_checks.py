@@ -29,11 +29,10 @@ def coefficients(library, kind, m, n, c, cv):
     return None if call(m, n, c, cv, values, COEFFICIENTS) else list(values)
 
 
-def recurrence_error(kind, m, n, c, cv, d):
-    """How far d is from the mode's direction: its residual in the three-term recurrence over n + 1,
-    which is below the distance to the next characteristic value of this parity. Each place is
-    weighted with the norm of its Legendre function."""
-    square, weight, residual, size = SIGNS[kind] * c * c, 1.0, [], []
+def recurrence_terms(kind, m, n, c, cv, d):
+    """Of each place the norm of its Legendre function, in units of the first, and the three terms of the
+    recurrence, whose sum is zero."""
+    square, weight = SIGNS[kind] * c * c, 1.0
     for i, (below, here, above) in enumerate(zip([0.0, *d], d, [*d[1:], 0.0])):
         k = 2 * i + (n - m) % 2
         s = m + k
@@ -42,8 +41,16 @@ def recurrence_error(kind, m, n, c, cv, d):
         a = (2 * m + k + 2) * (2 * m + k + 1) / ((2 * s + 3) * (2 * s + 5)) * square
         b = s * (s + 1) + (2 * s * (s + 1) - 2 * m * m - 1) / ((2 * s - 1) * (2 * s + 3)) * square
         g = k * (k - 1) / ((2 * s - 3) * (2 * s - 1)) * square
-        residual.append(weight * (a * above + (b - cv) * here + g * below))
-        size.append(weight * here)
+        yield weight, (a * above, (b - cv) * here, g * below)
+
+
+def recurrence_error(kind, m, n, c, cv, d):
+    """How far d is from the mode's direction: its residual in the three-term recurrence over n + 1,
+    which is below the distance to the next characteristic value of this parity. Each place is
+    weighted with the norm of its Legendre function."""
+    places = list(recurrence_terms(kind, m, n, c, cv, d))
+    residual = [weight * sum(terms) for weight, terms in places]
+    size = [weight * here for (weight, _), here in zip(places, d)]
     return ratio(math.hypot(*residual), math.hypot(*size)) / (n + 1)
 
 
@@ -111,10 +118,24 @@ def wronskian_error(c, first, second):
 ROUNDING = 1e-15
 
 
-def first_kind_sum(m, n, c, d, x):
+def place_errors(kind, m, n, c, cv, d):
+    """How far each place of d is off, relative to itself: the error of the direction, and for places
+    below the mode's own the largest residual between the two in units of its terms. The first kind near
+    the disc hangs on the first place, which may be tiny."""
+    common, worst, errors = ROUNDING + recurrence_error(kind, m, n, c, cv, d), 0.0, []
+    places = list(recurrence_terms(kind, m, n, c, cv, d))
+    for _, terms in reversed(places[: (n - m) // 2]):
+        size = sum(map(abs, terms))
+        worst = max(worst, abs(sum(terms)) / size if size else 0.0)
+        errors.append(common + worst)
+    return errors[::-1] + [common] * (len(d) - len(errors))
+
+
+def first_kind_sum(m, n, c, d, x, errors):
     """The first oblate kind and its derivative at x from zero on, as sums of d over spherical Bessel
-    functions j, and the sizes of the terms in units of the sums; the value's first. It is formed from
-    quotients of neighbouring j over x, so that nothing cancels near the disc, unlike in the library."""
+    functions j, and what the errors of d's places may make of them, relative to them; the value's first.
+    It is formed from quotients of neighbouring j over x, so that nothing cancels near the disc, unlike in
+    the library."""
     used = [i for i, value in enumerate(d) if value] or [0]
     odd, count = (n - m) % 2, m + 2 * used[-1] + 3
     quotients, above = [], 0.0  # of degrees l + 1 and l, over x
@@ -125,23 +146,24 @@ def first_kind_sum(m, n, c, d, x):
     root, scale = math.hypot(1, x), math.sin(c * x) / (c * x) if c * x else 1.0
     scale *= math.prod(root * quotient for quotient in quotients[:m])
     term, before, weight = 1.0, 0.0, 1.0  # j of degree m + r over that of degree m, and of one less over x
-    values, slopes, weights = [], [], []
+    values, slopes, weights, off = [], [], [], [0.0, 0.0, 0.0]
+    around = m * x / root / root
     for r in range(0, 2 * used[-1] + odd + 1):
         if r % 2 == odd:
-            factor = d[r // 2] * weight * (-1) ** ((n - m - r) // 2)
-            values.append(factor * term)
-            slopes += [factor * r * before, -factor * c * x * quotients[m + r] * term]
-            weights.append(d[r // 2] * weight)
+            factor, error = d[r // 2] * weight, errors[r // 2]
+            sign = (-1) ** ((n - m - r) // 2)
+            parts = [r * before, -c * x * quotients[m + r] * term, around * term]
+            weights.append(factor)
+            values.append(sign * factor * term)
+            slopes.append(sign * factor * sum(parts))
+            sizes = abs(factor * term), abs(factor) * sum(map(abs, parts)), abs(factor)
+            off = [whole + error * size for whole, size in zip(off, sizes)]
         before = quotients[m + r] * term
         term = x * before
         weight *= (2 * m + r + 1) / (r + 1)
-    whole, value = sum(weights), sum(values)
-    around = m * x / root / root
-    slope = sum(slopes) + around * value
-    sizes = [sum(map(abs, values)), sum(map(abs, slopes)) + around * sum(map(abs, values))]
-    lost = ratio(sum(map(abs, weights)), abs(whole))
-    pair = [ratio(scale * value, whole), ratio(scale * slope, whole)]
-    return pair, [ratio(sizes[0], abs(value)) + lost, ratio(sizes[1], abs(slope)) + lost]
+    sums, whole = [sum(values), sum(slopes)], sum(weights)
+    errors = [ratio(size, abs(total)) + ratio(off[2], abs(whole)) for size, total in zip(off, sums)]
+    return [ratio(scale * total, whole) for total in sums], errors
 
 
 def first_kind_sizes(m, c, cv, x, pair):
@@ -159,13 +181,12 @@ def first_kind_sizes(m, c, cv, x, pair):
 
 def first_kind_error(m, n, c, cv, d, x, pair):
     """The error of a pair of the first oblate kind's value and derivative at x, the larger of both."""
-    sums, lost = first_kind_sum(m, n, c, d, x)
-    uncertain = ROUNDING + recurrence_error("oblate", m, n, c, cv, d)
+    sums, uncertain = first_kind_sum(m, n, c, d, x, place_errors("oblate", m, n, c, cv, d))
     sizes = first_kind_sizes(m, c, cv, x, sums)
     errors = []
-    for answer, true, size, terms in zip(pair, sums, sizes, lost):
+    for answer, true, size, error in zip(pair, sums, sizes, uncertain):
         zero = answer == 0 and true == 0  # as one of the two is on the disc
-        errors.append(0.0 if zero else ratio(abs(answer - true) + uncertain * terms * abs(true), size))
+        errors.append(0.0 if zero else ratio(abs(answer - true) + error * abs(true), size))
     return max(errors, key=lambda error: math.inf if math.isnan(error) else error)
 
 

@@ -1,6 +1,6 @@
 """Prints the tables of docs/ACCURACY.md: right digits of characteristic values, coefficients, angular
-functions and radial functions on the disc, all from the record program and the library, against the
-high-precision reference; and how often the checks for callers err.
+functions, radial functions on the disc and the first of them off it, all from the record program and
+the library, against the high-precision reference; and how often the checks for callers err.
 """
 import ctypes
 import math
@@ -24,6 +24,9 @@ OFFSETS = (0, 1, 2, 3, 5, 10, 15, 20, 25, 30, 40, 60)
 # What the tables call small.
 SMALL_OFFSET, SMALL_ORDER = 10, 5
 ARGUMENTS = (0.0, 0.1, 0.3, 0.5, 0.7, 0.9, 0.99)
+# Of the first kind off the disc, and from where on near the disc is left.
+OFF_DISC = (1e-8, 1e-6, 1e-4, 1e-3, 0.01, 0.1, 0.3, 1.0, 3.0, 10.0, 50.0)
+AWAY = 0.1
 # Digits in which two ways of the reference must agree.
 LEAST_AGREEMENT = 40
 ENOUGH = client.LEAST_DIGITS
@@ -82,6 +85,13 @@ def answers_of(modes):
     return answers
 
 
+def first_kinds(answers, arguments=OFF_DISC):
+    """The pairs of the first kind of each oblate answer, None where one is refused."""
+    asked = [record("first", "oblate", a.m, a.n, a.c, a.value, x) for a in answers for x in arguments]
+    pairs = iter(map(doubles, client.ask(str(client.PROGRAM), asked)) if asked else [])
+    return [[next(pairs) for _ in arguments] for _ in answers]
+
+
 def record(what, kind, m, n, c, cv=0.0, x=0.0):
     return client.record(client.OPERATIONS[what, kind], {"m": m, "n": n, "c": c}, cv, x)
 
@@ -128,6 +138,26 @@ def disc_digits(answer, truth):
     return min(relative(found, true) for found, true in pairs)
 
 
+def first_kind_digits(answer, truth, x, pair):
+    """Of value and of derivative, each against itself; where the function oscillates and passes through
+    zero, against its amplitude. What is below the least normal double is right where the answer is too."""
+    m, x = answer.m, Decimal(x)
+    true = truth.first_off_disc(x)
+    square = ((Decimal(truth.c) * x) ** 2 - truth.value + m * m / (1 + x * x)) / (1 + x * x)
+    sizes = list(map(abs, true))
+    if square > 0:
+        wave = square.sqrt()
+        amplitude = min(1, wave * x) * (true[0] ** 2 + true[1] ** 2 / square).sqrt()
+        sizes = [max(sizes[0], amplitude), max(sizes[1], wave * amplitude)]
+    found = []
+    for answer, right, size in zip(pair, true, sizes):
+        if math.isfinite(answer) and max(abs(answer), abs(right)) >= sys.float_info.min:
+            found.append(digits(abs(Decimal(answer) - right) / size))
+        else:
+            found.append(16.0 if math.isfinite(answer) else 0.0)
+    return found
+
+
 def wronskian_digits(answer):
     error = checks.wronskian_error(answer.c, answer.four[:2], answer.four[2:])
     return digits(error) if math.isfinite(error) else 0.0
@@ -162,6 +192,56 @@ def table_modes(kind, parameters):
     wide = [(m, m + o) for m in ORDERS for o in range(SMALL_OFFSET + 1)]
     long = [(m, m + o) for m in ORDERS if m <= SMALL_ORDER for o in OFFSETS]
     return [(kind, m, n, c) for c in parameters for m, n in sorted({*wide, *long})]
+
+
+def print_by_argument(heading, measured, parameters):
+    """Least and median digits by c and x; `measured` has c, x and digits."""
+    print(f"{heading}\n\n| c | {' | '.join(f'x {x:g}' for x in OFF_DISC)} |\n|" + "---|" * (len(OFF_DISC) + 1))
+    for c in parameters:
+        cells = [least_and_median([d for c2, x2, d in measured if (c2, x2) == (c, x)]) for x in OFF_DISC]
+        print(f"| {c:g} | {' | '.join(cells)} |")
+    print()
+
+
+def print_first_kind(parameters):
+    """The first kind off the disc: near it by x, away from it by m and n - m."""
+    values, first, others, away = [], [], [], []
+    answers = answers_of(table_modes("oblate", parameters))
+    for answer, pairs in zip(answers, first_kinds(answers)):
+        truth, least = answer.truth(), []
+        for x, pair in zip(OFF_DISC, pairs):
+            if pair:
+                value, slope = first_kind_digits(answer, truth, x, pair)
+                if answer.m <= 12 and answer.n - answer.m <= 20:
+                    values.append((answer.c, x, value))
+                    (others if answer.m else first).append((answer.c, x, slope))
+                least += [value, slope] if x >= AWAY else []
+        if least:
+            away.append(((answer.m, answer.n, answer.c), min(least)))
+    print("### Oblate first kind off the disc\n")
+    modes = "m up to 12 and n − m up to 20"
+    print_by_argument(f"Value, by c and x, over {modes}:", values, parameters)
+    print_by_argument("Derivative, by c and x, over m = 0 and n − m up to 20:", first, parameters)
+    print_by_argument("Derivative, by c and x, over m from 1 to 12 and n − m up to 20:", others, parameters)
+    print(f"Value and derivative, the least over x from {AWAY:g} to 50 of those that are accepted. ", end="")
+    print_tables(away, parameters)
+
+
+def print_near_disc(orders, c):
+    """From where on, down to the disc, the first kind has fewer than 6 digits, is zero, is NaN: n = m."""
+    exponents = [-e / 10 for e in range(0, 3230)]
+    print(f"### Oblate first kind near the disc, n = m, c = {c:g}\n")
+    print("| m | derivative below 6 digits | value 0 | value NaN | derivative NaN |\n|---|---|---|---|---|")
+    for m in orders:
+        [answer] = answers_of([("oblate", m, m, c)])
+        [pairs] = first_kinds([answer], [10**e for e in exponents])
+        truth, found = answer.truth(), [None] * 4
+        for e, pair in zip(exponents, pairs):
+            tests = [not found[0] and first_kind_digits(answer, truth, 10**e, pair)[1] < ENOUGH]
+            tests += [pair[0] == 0, math.isnan(pair[0]), math.isnan(pair[1])]
+            found = [f or (t and f"{10**e:.0e}") for f, t in zip(found, tests)]
+        print(f"| {m} | {' | '.join(f or 'nowhere' for f in found)} |")
+    print()
 
 
 def print_measurements(parameters):
@@ -232,14 +312,18 @@ def print_zero_pivots(count):
 def print_reliable(parameters, largest_order, largest_offset):
     """The least digits of all modes with small m and n - m."""
     print(f"### Least digits with m up to {largest_order} and n − m up to {largest_offset}\n")
-    print("| c | angular | coefficients | disc |\n|---|---|---|---|")
+    print(f"| c | angular | coefficients | disc | first kind, x from {AWAY:g} on |\n|---|---|---|---|---|")
     for c in parameters:
         numbers = [(m, m + o) for m in range(largest_order + 1) for o in range(largest_offset + 1)]
-        least = [16.0] * 3
-        for answer in answers_of([(kind, m, n, c) for kind in KINDS for m, n in numbers]):
+        least = [16.0] * 4
+        answers = answers_of([(kind, m, n, c) for kind in KINDS for m, n in numbers])
+        arguments = [x for x in OFF_DISC if x >= AWAY]
+        for answer, pairs in zip(answers, first_kinds(answers, arguments)):
             truth = answer.truth()
             found = [min(angular_digits(answer, truth)), coefficient_digits(answer, truth)]
-            found += [disc_digits(answer, truth)] if answer.four else []
+            if answer.four:
+                away = [first_kind_digits(answer, truth, x, pair) for x, pair in zip(arguments, pairs) if pair]
+                found += [disc_digits(answer, truth), min(map(min, away))]
             least = list(map(min, least, found + least[len(found) :]))
         print(f"| {c:g} | {' | '.join(str(int(digits)) for digits in least)} |")
     print()
@@ -297,9 +381,9 @@ def print_wrong_directions(parameters):
 
 
 def print_self_test(modes):
-    """The sum over Legendre functions against the power series of the differential equation, and the
-    Wronskian of the radial functions."""
-    least = {"power series": 99, "Wronskian": 99}
+    """The sum over Legendre functions against the power series of the differential equation, the
+    Wronskian of the radial functions, and the sum over Bessel functions against the series from the disc."""
+    least = {"power series": 99, "Wronskian": 99, "series from the disc": 99}
     for answer in answers_of(modes):
         truth, x = answer.truth(), Decimal("0.6")
         agreement = {"power series": truth.angular(x)[0] / truth.angular_by_powers(x) - 1}
@@ -307,6 +391,9 @@ def print_self_test(modes):
             value, slope = truth.second_on_disc()
             product = -value if truth.parity else slope
             agreement["Wronskian"] = Decimal(truth.c) * truth.first_on_disc() * product - 1
+            far = Decimal(5)
+            pairs = zip(truth.first_off_disc(far), truth.first_by_steps(far))
+            agreement["series from the disc"] = max(abs(found / true - 1) for found, true in pairs)
         for name, error in agreement.items():
             least[name] = min(least[name], -float(abs(error).log10()) if error else 99)
     print(f"The reference against itself in {len(modes)} modes: ", end="")
@@ -397,10 +484,19 @@ def print_checks(count):
             alone.count(true, checks.digits(error))
             error += checks.recurrence_error(a.kind, a.m, a.n, a.c, a.value, a.d)
             disc.count(true, checks.digits(error))
+    first, parts = Tally("client, first kind, each x"), Tally("its derivative's parts alone")
+    answers = answers_of(random_modes(count // 2, 60, 40, 60, ("oblate",)))
+    for a, pairs in zip(answers, first_kinds(answers)):
+        truth = a.truth() if finite(a.d) else None
+        for x, pair in zip(OFF_DISC, pairs):
+            if truth and pair and finite(pair):
+                true = min(first_kind_digits(a, truth, x, pair))
+                first.count(true, checks.digits(checks.first_kind_error(a.m, a.n, a.c, a.value, a.d, x, pair)))
+                parts.count(true, checks.digits(checks.first_kind_cancellation(a.m, x, pair)))
     print("### The checks\n")
     print(f"| check | fewer than {ENOUGH} digits | of these silent | {ENOUGH} or more | of these warned |")
     print("|---|---|---|---|---|")
-    for tally in (points, modes, simple, zero, disc, alone):
+    for tally in (points, modes, simple, zero, disc, alone, first, parts):
         print(tally.row())
     print()
 
@@ -411,6 +507,8 @@ def main(words):
     quick = bool(words)
     print_self_test(random_modes(20 if quick else 100, 60, 60, 60, KINDS))
     print_measurements((1e-7, 1.0, 20.0) if quick else PARAMETERS)
+    print_first_kind((1e-7, 1.0, 20.0) if quick else PARAMETERS)
+    print_near_disc((0, 1, 3, 12) if quick else (0, 1, 2, 3, 5, 8, 12, 20, 30, 50, 80), 1.0)
     print_near_zero([(0, 1), (1, 1), (2, 6), (10, 12)])
     print_zero_pivots(400 if quick else 4000)
     print_reliable((1.0,) if quick else (9e-11, 1e-4, 1e-3, 0.03, 1.0, 7.0, 10.0), 12, 15)

@@ -1,8 +1,8 @@
 """Spheroidal functions in high precision, as the accuracy test's reference.
 
 An eigenvalue of the tridiagonal matrix, its vector d in Flammer's normalisation, the angular function
-as the sum of d over associated Legendre functions without the Condon-Shortley sign, and both oblate
-radial functions on the disc. All in decimal floating point, with as many digits as the sums lose and
+as the sum of d over associated Legendre functions without the Condon-Shortley sign, both oblate radial
+functions on the disc, and the first of them off it. All in decimal floating point, with as many digits as the sums lose and
 some 60 more.
 """
 from decimal import Decimal, getcontext
@@ -156,6 +156,27 @@ class Mode:
         odd = prod(range(3, 2 * (self.m + self.parity) + 2, 2))
         return (-1) ** self.index * factors[0] * c ** (self.m + self.parity) / odd / sum(factors)
 
+    def first_off_disc(self, x):
+        """The first oblate radial function and its derivative at x above zero: the sum over spherical
+        Bessel functions. Of each term's derivative, that of x^-m times it, nothing cancels near zero."""
+        m, c, factors = self.m, Decimal(self.c), self.factors()
+        j = bessel(c * x, m + 2 * len(factors) + 2)
+        terms = [((-1) ** (self.index + i) * factor, 2 * i + self.parity) for i, factor in enumerate(factors)]
+        scale = (1 + x * x).sqrt() ** m / x**m / sum(factors)
+        value = scale * sum(f * j[m + r] for f, r in terms)
+        slope = scale * sum(f * (r * j[m + r] / x - c * j[m + r + 1]) for f, r in terms)
+        return value, slope + m * x / (1 + x * x) * value
+
+    def first_by_steps(self, x):
+        """The same from the disc by Taylor series of the differential equation, without Bessel functions."""
+        start, x = self.first_on_disc(), +x  # rounded, so that the steps can reach it
+        pair, at = (Decimal(0), start) if self.parity else (start, Decimal(0)), Decimal(0)
+        while at < x:
+            step = min(x - at, (1 + at * at).sqrt() / 2, 20 / Decimal(self.c))
+            pair, at = self.stepped(at, step, *pair), at + step
+        root = (1 + x * x).sqrt() ** self.m
+        return root * pair[0], root * (pair[1] + self.m * x / (1 + x * x) * pair[0])
+
     def second_on_disc(self):
         """The second one and its derivative: its sum over spherical Neumann functions at 12, from
         where Taylor series of the differential equation go down to the disc."""
@@ -191,8 +212,7 @@ class Mode:
         return value, slope
 
 
-def neumann(z, count):
-    """Spherical Neumann functions of degrees 0, 1, .. at z, and the derivatives."""
+def cosine_and_sine(z):
     extra = int(0.9 * float(z)) + 10
     getcontext().prec += extra
     sums, term, k = [Decimal(0)] * 4, Decimal(1), 0
@@ -202,7 +222,26 @@ def neumann(z, count):
         k += 1
         term = term * z / k
     getcontext().prec -= extra
-    cosine, sine = sums[0] - sums[2], sums[1] - sums[3]
+    return sums[0] - sums[2], sums[1] - sums[3]
+
+
+def bessel(z, count):
+    """Spherical Bessel functions of degrees 0, 1, .. at z, by their recurrence from far above on down."""
+    cosine, sine = cosine_and_sine(z)
+    above, here, values = Decimal(0), Decimal(1), []
+    for l in range(max(count, int(z)) + 2 * getcontext().prec, 0, -1):
+        above, here = here, (2 * l + 1) / z * here - above
+        if l <= count:
+            values.append(here)
+    values.reverse()
+    zero, one = sine / z, sine / z / z - cosine / z
+    scale = zero / values[0] if abs(zero) > abs(one) else one / values[1]
+    return [value * scale for value in values]
+
+
+def neumann(z, count):
+    """Spherical Neumann functions of degrees 0, 1, .. at z, and the derivatives."""
+    cosine, sine = cosine_and_sine(z)
     values = [-cosine / z, -cosine / z / z - sine / z]
     for l in range(1, count):
         values.append((2 * l + 1) / z * values[-1] - values[-2])
