@@ -40,13 +40,4 @@ unsafe extern "C" {
     pub safe fn routines_msta1(x: f64, mp: u32) -> u32;
     pub safe fn routines_msta2(x: f64, n: u32, mp: u32) -> u32;
     pub safe fn routines_sphj(x: f64, n: u32, sj: &mut BesselPlaces, dj: &mut BesselPlaces) -> u32;
-    pub safe fn routines_rmn1(
-        df: &Places,
-        m: u32,
-        n: u32,
-        c: f64,
-        x: f64,
-        value: &mut f64,
-        derivative: &mut f64,
-    );
 }

@@ -21,7 +21,7 @@ use generator::Generator;
 use known::Input;
 use library::{
     Places, routines_aswfa, routines_cbk, routines_kmn, routines_msta1, routines_msta2,
-    routines_qstar, routines_rmn1, routines_sckb, routines_sdmn, routines_sphj,
+    routines_qstar, routines_sckb, routines_sdmn, routines_sphj,
 };
 use oracle::answer::{self, Build};
 use oracle::orders;
@@ -53,7 +53,6 @@ struct Tallies {
     msta1: Tally,
     msta2: Tally,
     sphj: Tally,
-    rmn1: Tally,
     coefficients: Tally,
 }
 
@@ -78,7 +77,6 @@ fn main() -> ExitCode {
         msta1: Tally::new("msta1"),
         msta2: Tally::new("msta2"),
         sphj: Tally::new("sphj"),
-        rmn1: Tally::new("rmn1 off the disc"),
         coefficients: Tally::new("coefficients, refusals included"),
     };
     let Ok(known) = known_records() else {
@@ -145,13 +143,13 @@ impl Tallies {
             self.compare_disc(record, &df, &ck);
         }
         if record.operation == 8 && record.x > 0.0 && refusal(record).is_none() {
-            self.compare_off_disc(record, &df);
+            self.compare_off_disc(record);
         }
     }
 
     /// The Bessel functions of an accepted record of operation 8, up to the order that `rmn1` asks for
-    /// and to others, and the first kind.
-    fn compare_off_disc(&mut self, record: &Record, df: &Places) {
+    /// and to others.
+    fn compare_off_disc(&mut self, record: &Record) {
         let Record { m, n, c, x, .. } = *record;
         let highest = highest_order(m, n, c);
         for order in [highest, 2, 251] {
@@ -166,11 +164,6 @@ impl Tallies {
             let theirs = [&[theirs], &rust_sj[..], &rust_dj[..]].concat();
             compare(&mut self.sphj, record, &ours, &theirs);
         }
-        let [mut value, mut derivative] = [0.0; 2];
-        let (m, n) = (u32::from(m), u32::from(n));
-        routines_rmn1(df, m, n, c, x, &mut value, &mut derivative);
-        let theirs = answer::rmn1(record, df);
-        compare(&mut self.rmn1, record, &[value, derivative], &theirs);
     }
 
     /// Arguments that operation 8 accepts, and as many that lead to other trial orders, for which the
@@ -253,7 +246,6 @@ impl Tallies {
             &self.msta1,
             &self.msta2,
             &self.sphj,
-            &self.rmn1,
             &self.coefficients,
         ];
         for tally in all {

@@ -31,10 +31,3 @@ pub(crate) fn cbk_places(m: i32, n: i32, c: f64, cv: f64, qt: f64, ck: &[f64]) -
     cbk(m, n, c, cv, qt, ck, &mut bk);
     bk
 }
-
-/// The oblate first kind from expansion coefficients.
-pub(crate) fn rmn1_pair(m: i32, n: i32, c: f64, x: f64, df: &[f64]) -> [f64; 2] {
-    let (mut r1f, mut r1d) = (0.0, 0.0);
-    rmn1(m, n, c, x, -1, df, &mut r1f, &mut r1d);
-    [r1f, r1d]
-}

@@ -75,12 +75,6 @@ pub fn first_kind(build: Build, record: &Record) -> [f64; 2] {
     [r1f, r1d]
 }
 
-/// The oblate first kind by `rmn1`, from expansion coefficients.
-pub fn rmn1(record: &Record, df: &[f64]) -> [f64; 2] {
-    let (m, n) = (i32::from(record.m), i32::from(record.n));
-    served::rmn1_pair(m, n, record.c, record.x, df)
-}
-
 /// Places for Bessel functions.
 pub type BesselPlaces = [f64; 252];
 

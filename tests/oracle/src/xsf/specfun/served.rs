@@ -11,4 +11,4 @@ mod bessel;
 mod sphd;
 
 pub(crate) use bessel::{msta1, msta2, sphj};
-pub(crate) use sphd::{aswfa, rmn1_pair, rswfo};
+pub(crate) use sphd::{aswfa, rswfo};
