@@ -1,7 +1,6 @@
 // The source's `sphj`: spherical Bessel functions of the first kind and their derivatives.
 ghost use mathlib.Core.Path.{_≡_};
 ghost use Prim.Native.Nat.{_≤_, _<_};
-ghost use lib.ListN.{length};
 ghost use Rattle.bessel.specs.Sphj as Sphj;
 
 // Room for orders up to 251.

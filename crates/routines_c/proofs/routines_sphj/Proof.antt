@@ -1,5 +1,4 @@
 -- `routines_sphj` meets its contract. Assumes nothing.
-use mathlib.Core.Path.{_≡_}
 use borrow.Author.Tests.{eq-eqb, ne-eqb}
 use borrow.Author.Needs.{needs}
 use Rattle.routines_c.proofs.routines_sphj.Statement.{statement}

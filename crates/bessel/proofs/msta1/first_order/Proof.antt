@@ -1,4 +1,4 @@
--- `msta1::first_order` meets its contract. Assumes nothing.
+-- `bessel::msta1::first_order` meets its contract. Assumes nothing.
 use native.Mathlib.Omega.{arith}
 use Rattle.arith.specs.Double.{_⊗_}
 use Rattle.arith.proofs.Laws.{whole-most}

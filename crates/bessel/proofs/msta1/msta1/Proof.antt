@@ -1,4 +1,4 @@
--- `msta1::msta1` meets its contract. Assumes nothing.
+-- `bessel::msta1::msta1` meets its contract. Assumes nothing.
 use Rattle.bessel.specs.Msta1.{msta1}
 use borrow.Author.Needs.{needs}
 use Rattle.bessel.proofs.msta1.msta1.Statement.{statement}

@@ -1,4 +1,4 @@
--- `msta2::msta2` meets its contract. Assumes nothing.
+-- `bessel::msta2::msta2` meets its contract. Assumes nothing.
 use Rattle.bessel.specs.Msta2.{msta2}
 use borrow.Author.Needs.{needs}
 use Rattle.bessel.proofs.msta2.msta2.Statement.{statement}

@@ -1,6 +1,4 @@
--- `msta2::search_for` meets its contract. Assumes nothing.
-use mathlib.Core.Path.{_≡_, sym, _∙_}
-use mathlib.Core.Bool.{true, false}
+-- `bessel::msta2::search_for` meets its contract. Assumes nothing.
 use Rattle.bessel.specs.Msta2.{searchFor}
 use borrow.Author.Needs.{needs}
 use Rattle.bessel.proofs.msta2.search_for.Statement.{statement}

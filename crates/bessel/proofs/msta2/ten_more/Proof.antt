@@ -1,5 +1,4 @@
--- `msta2::ten_more` meets its contract. Assumes nothing.
-use mathlib.Core.Path.{refl}
+-- `bessel::msta2::ten_more` meets its contract. Assumes nothing.
 use native.Mathlib.Omega.{arith}
 use borrow.Author.Tests.{eq-eqb, ne-eqb}
 use Rattle.bessel.specs.Msta2.{tenMore}

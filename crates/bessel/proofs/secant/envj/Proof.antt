@@ -1,4 +1,4 @@
--- `secant::envj` meets its contract. Assumes nothing.
+-- `bessel::secant::envj` meets its contract. Assumes nothing.
 use Rattle.bessel.specs.Secant.{envj}
 use borrow.Author.Needs.{needs}
 use Rattle.bessel.proofs.secant.envj.Statement.{statement}

@@ -1,5 +1,4 @@
--- `secant::may_try` meets its contract. Assumes nothing.
-use mathlib.Core.Path.{refl}
+-- `bessel::secant::may_try` meets its contract. Assumes nothing.
 use borrow.Author.Tests.{lt-ltb}
 use native.Mathlib.Omega.{arith}
 use Rattle.bessel.specs.Secant.{mayTry}

@@ -1,4 +1,4 @@
--- `secant::searched` meets its contract. Assumes nothing.
+-- `bessel::secant::searched` meets its contract. Assumes nothing.
 use borrow.Author.Needs.{needs}
 use mathlib.Core.Path.{_≡_, sym, _∙_}
 use mathlib.Core.Bool.{true}

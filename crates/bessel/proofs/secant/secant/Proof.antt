@@ -1,9 +1,9 @@
--- `secant::secant` meets its contract. The invariant: what is left to try gives what the whole gives. Assumes nothing.
+-- `bessel::secant::secant` meets its contract. The invariant: what is left to try gives what the whole gives. Assumes nothing.
 use Prim.Native.Nat.{_-_, _≤_}
 use mathlib.Core.Path.{_≡_, sym, _∙_}
 use native.Mathlib.Omega.{arith}
 use borrow.Author.Tests.{eq-eqb, ne-eqb, not-true, not-false}
-use Rattle.bessel.specs.Secant.{mayTry, meeting, excess, secant}
+use Rattle.bessel.specs.Secant.{meeting, excess, secant}
 use Rattle.bessel.proofs.Laws.{one-more, none-left, not-tried, again, onward, tried-most}
 use borrow.Author.Needs.{needs}
 use Rattle.bessel.proofs.secant.secant.Statement.{statement}

@@ -1,4 +1,4 @@
--- `sphj::blank` meets its contract. Assumes nothing.
+-- `bessel::sphj::blank` meets its contract. Assumes nothing.
 use mathlib.Core.Path.{refl}
 use Rattle.bessel.specs.Sphj.{blank}
 use Rattle.bessel.proofs.sphj.blank.Statement.{statement}

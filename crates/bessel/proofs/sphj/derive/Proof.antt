@@ -1,4 +1,4 @@
--- `sphj::derive` meets its contract. The invariant: the derivatives up to order k are there. Assumes nothing.
+-- `bessel::sphj::derive` meets its contract. The invariant: the derivatives up to order k are there. Assumes nothing.
 use Prim.Native.Nat.{_-_, _≤_}
 use mathlib.Core.Path.{_≡_, refl}
 use native.Mathlib.Omega.{arith}

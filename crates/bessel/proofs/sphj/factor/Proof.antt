@@ -1,4 +1,4 @@
--- `sphj::factor` meets its contract. Assumes nothing.
+-- `bessel::sphj::factor` meets its contract. Assumes nothing.
 use Rattle.bessel.specs.Sphj.{factor}
 use borrow.Author.Needs.{needs}
 use Rattle.bessel.proofs.sphj.factor.Statement.{statement}

@@ -1,4 +1,4 @@
--- `sphj::find_orders` meets its contract. Assumes nothing.
+-- `bessel::sphj::find_orders` meets its contract. Assumes nothing.
 use mathlib.Core.Path.{sym, _∙_}
 use native.Mathlib.Omega.{arith}
 use Rattle.bessel.specs.Sphj.{orders}

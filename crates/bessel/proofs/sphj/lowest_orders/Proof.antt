@@ -1,4 +1,4 @@
--- `sphj::lowest_orders` meets its contract. Assumes nothing.
+-- `bessel::sphj::lowest_orders` meets its contract. Assumes nothing.
 use Rattle.bessel.specs.Sphj.{lowest}
 use borrow.Author.Needs.{needs}
 use Rattle.bessel.proofs.sphj.lowest_orders.Statement.{statement}

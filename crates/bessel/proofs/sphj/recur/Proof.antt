@@ -1,4 +1,4 @@
--- `sphj::recur` meets its contract. The invariant: the steps that are left give what all give. Assumes nothing.
+-- `bessel::sphj::recur` meets its contract. The invariant: the steps that are left give what all give. Assumes nothing.
 use Prim.Native.Nat.{suc, _-_, _≤_}
 use mathlib.Core.Path.{_≡_, _∙_}
 use native.Mathlib.Omega.{arith}

@@ -1,4 +1,4 @@
--- `sphj::scale` meets its contract. The invariant: the first k places are scaled. Assumes nothing.
+-- `bessel::sphj::scale` meets its contract. The invariant: the first k places are scaled. Assumes nothing.
 use Prim.Native.Nat.{_-_, _≤_}
 use mathlib.Core.Path.{_≡_, refl}
 use native.Mathlib.Omega.{arith}

@@ -1,4 +1,4 @@
--- `sphj::searched_orders` meets its contract. Assumes nothing.
+-- `bessel::sphj::searched_orders` meets its contract. Assumes nothing.
 use native.Mathlib.Omega.{arith}
 use borrow.Author.Tests.{lt-ltb, le-ltb}
 use Rattle.bessel.specs.Sphj.{searchedOrders}

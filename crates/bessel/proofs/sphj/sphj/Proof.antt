@@ -1,4 +1,4 @@
--- `sphj::sphj` meets its contract. Assumes nothing.
+-- `bessel::sphj::sphj` meets its contract. Assumes nothing.
 use mathlib.Core.Path.{sym, _∙_}
 use native.Mathlib.Numerals.{add-one}
 use Rattle.bessel.proofs.Laws.{near-zero, far-off}

@@ -1,4 +1,4 @@
--- `sphj::tiny` meets its contract. Assumes nothing.
+-- `bessel::sphj::tiny` meets its contract. Assumes nothing.
 use Rattle.bessel.specs.Sphj.{tiny}
 use borrow.Author.Needs.{needs}
 use Rattle.bessel.proofs.sphj.tiny.Statement.{statement}

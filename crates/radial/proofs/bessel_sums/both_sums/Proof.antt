@@ -1,6 +1,6 @@
--- `bessel_sums::both_sums` meets its contract. The invariant: for each sum, what is left to add gives what the whole gives. Assumes nothing.
+-- `radial::bessel_sums::both_sums` meets its contract. The invariant: for each sum, what is left to add gives what the whole gives. Assumes nothing.
 use Prim.Native.Nat.{suc, _-_, _≤_}
-use mathlib.Core.Path.{_≡_, refl, sym, _∙_}
+use mathlib.Core.Path.{_≡_, sym, _∙_}
 use native.Mathlib.Omega.{arith}
 use native.Mathlib.Numerals.{add-one}
 use native.Mathlib.Nat.{sub-zero}

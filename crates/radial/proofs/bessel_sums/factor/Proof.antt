@@ -1,4 +1,4 @@
--- `bessel_sums::factor` meets its contract. Assumes nothing.
+-- `radial::bessel_sums::factor` meets its contract. Assumes nothing.
 use borrow.Author.Tests.{eq-eqb, ne-eqb}
 use Rattle.radial.specs.BesselSums.{factor}
 use borrow.Author.Needs.{needs}

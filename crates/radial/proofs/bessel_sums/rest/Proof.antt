@@ -1,4 +1,4 @@
--- `bessel_sums::rest` meets its contract. The invariant: what is left to add gives what the whole gives. Assumes nothing.
+-- `radial::bessel_sums::rest` meets its contract. The invariant: what is left to add gives what the whole gives. Assumes nothing.
 use Prim.Native.Nat.{suc, _-_, _≤_}
 use mathlib.Core.Path.{_≡_, refl, sym, _∙_}
 use native.Mathlib.Omega.{arith}

@@ -1,4 +1,4 @@
--- `rmn1::half_of_m` meets its contract. Assumes nothing.
+-- `radial::rmn1::half_of_m` meets its contract. Assumes nothing.
 use borrow.Author.Tests.{eq-eqb, ne-eqb}
 use Rattle.radial.specs.Rmn1.{toHalf}
 use borrow.Author.Needs.{needs}

@@ -1,4 +1,4 @@
--- `rmn1::joined` meets its contract. Assumes nothing.
+-- `radial::rmn1::joined` meets its contract. Assumes nothing.
 use Rattle.radial.specs.Rmn1.{joined}
 use borrow.Author.Needs.{needs}
 use Rattle.radial.proofs.rmn1.joined.Statement.{statement}

@@ -1,6 +1,5 @@
--- `rmn1::off_disc` meets its contract. Assumes nothing.
+-- `radial::rmn1::off_disc` meets its contract. Assumes nothing.
 use Prim.Native.Nat.{ℕ, _+_, _*_, _≤_, _<_}
-use mathlib.Core.Path.{_≡_}
 use native.Mathlib.Omega.{arith}
 use borrow.Author.Tests.{eq-eqb, ne-eqb}
 use Rattle.radial.proofs.Laws.{no-order, with-order}

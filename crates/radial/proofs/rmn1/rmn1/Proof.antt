@@ -1,6 +1,5 @@
--- `rmn1::rmn1` meets its contract. Assumes nothing.
+-- `radial::rmn1::rmn1` meets its contract. Assumes nothing.
 use mathlib.Core.Path.{_∙_}
-use Rattle.radial.specs.declared.rmn1.First.the-variants.{Known}
 use Rattle.radial.proofs.Laws.{at-zero, off-zero}
 use borrow.Author.Needs.{needs}
 use Rattle.radial.proofs.rmn1.rmn1.Statement.{statement}

@@ -1,4 +1,4 @@
--- `rswfo::coefficients` meets its contract. Assumes nothing.
+-- `radial::rswfo::coefficients` meets its contract. Assumes nothing.
 use borrow.Author.Needs.{needs}
 use Rattle.radial.proofs.rswfo.coefficients.Statement.{statement}
 use Rattle.radial.proofs.rswfo.coefficients.Tie as tie

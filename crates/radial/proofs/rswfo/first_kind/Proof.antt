@@ -1,4 +1,4 @@
--- `rswfo::first_kind` meets its contract. Assumes nothing.
+-- `radial::rswfo::first_kind` meets its contract. Assumes nothing.
 use mathlib.Core.Path.{_∙_}
 use Rattle.radial.specs.Rswfo.{firstKind}
 use borrow.Author.Needs.{needs}
