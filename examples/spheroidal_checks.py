@@ -191,6 +191,9 @@ def first_kind_error(m, n, c, cv, d, x, pair):
 
 
 def first_kind_cancellation(m, x, pair):
-    """What is lost where the derivative's two parts, of which one is m/(x (x x + 1)) times the value,
-    nearly cancel; without d."""
-    return ratio(ROUNDING * m * abs(pair[0]), x * (x * x + 1) * abs(pair[1])) if x and m else 0.0
+    """What the derivative loses near the disc, without d: its two parts nearly cancel, of which one is
+    m/(x (x x + 1)) times the value; for m = 0 those of the Bessel function's derivative do."""
+    if not x:
+        return 0.0
+    part = m / (x * (x * x + 1)) if m else 1 / x
+    return ratio(ROUNDING * part * abs(pair[0]), abs(pair[1]))

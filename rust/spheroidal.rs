@@ -327,7 +327,8 @@ pub fn radial(mode: Mode, cv: f64, x: f64) -> Result<Radial, Refusal> {
 }
 
 /// The oblate radial function of the first kind of mode n with the characteristic value cv, at a finite
-/// x from zero on: on the disc and off it. @ACCURACY@
+/// x from zero on: on the disc and off it. Near the disc, digits of the derivative are lost, and very near
+/// it the value is 0 or NaN; the header says where.
 pub fn first_kind(mode: Mode, cv: f64, x: f64) -> Result<Pair, Refusal> {
     let [mut value, mut derivative] = [0.0; 2];
     // SAFETY: both places are this function's own.

@@ -206,25 +206,44 @@ def print_by_argument(heading, measured, parameters):
 def print_first_kind(parameters):
     """The first kind off the disc: near it by x, away from it by m and n - m."""
     values, first, others, away = [], [], [], []
-    answers = answers_of(table_modes("oblate", parameters))
+    orders, offsets = [m for m in ORDERS if m <= 12], [*range(SMALL_OFFSET + 1), 15, 20]
+    chosen = {("oblate", m, m + o, c) for c in parameters for m in orders for o in offsets}
+    answers = answers_of(sorted(chosen.union(table_modes("oblate", parameters))))
     for answer, pairs in zip(answers, first_kinds(answers)):
         truth, least = answer.truth(), []
         for x, pair in zip(OFF_DISC, pairs):
             if pair:
                 value, slope = first_kind_digits(answer, truth, x, pair)
-                if answer.m <= 12 and answer.n - answer.m <= 20:
+                if answer.m in orders and answer.n - answer.m in offsets:
                     values.append((answer.c, x, value))
                     (others if answer.m else first).append((answer.c, x, slope))
                 least += [value, slope] if x >= AWAY else []
         if least:
             away.append(((answer.m, answer.n, answer.c), min(least)))
     print("### Oblate first kind off the disc\n")
-    modes = "m up to 12 and n − m up to 20"
-    print_by_argument(f"Value, by c and x, over {modes}:", values, parameters)
-    print_by_argument("Derivative, by c and x, over m = 0 and n − m up to 20:", first, parameters)
-    print_by_argument("Derivative, by c and x, over m from 1 to 12 and n − m up to 20:", others, parameters)
+    print_by_argument("Value, by c and x, over m of 0, 1, 2, 3, 5, 8, 12 and n − m to 10, 15, 20:", values, parameters)
+    print_by_argument("Derivative, by c and x, over m = 0 and the same n − m:", first, parameters)
+    print_by_argument("Derivative, by c and x, over the other m and the same n − m:", others, parameters)
     print(f"Value and derivative, the least over x from {AWAY:g} to 50 of those that are accepted. ", end="")
     print_tables(away, parameters)
+
+
+def print_first_kind_least(parameters, largest_order, largest_offset):
+    """The least digits of all modes with small m and n - m, by where x begins."""
+    arguments = (1e-8, 1e-4, 0.01, 0.1, 0.3, 1.0, 3.0, 4.9)
+    print(f"### Least digits of the first kind with m up to {largest_order} and n − m up to {largest_offset}\n")
+    print("| c | value, x from 1e-8 | value, x from 0.1 | derivative, x from 0.1 | both, x from 1 |\n|---|---|---|---|---|")
+    for c in parameters:
+        numbers = [(m, m + o) for m in range(largest_order + 1) for o in range(largest_offset + 1)]
+        answers, least = answers_of([("oblate", m, n, c) for m, n in numbers]), [16.0] * 4
+        for answer, pairs in zip(answers, first_kinds(answers, arguments)):
+            truth = answer.truth()
+            for x, pair in zip(arguments, pairs):
+                value, slope = first_kind_digits(answer, truth, x, pair) if pair else (16.0, 16.0)
+                found = [value, *([value, slope] if x >= AWAY else [16.0] * 2), min(value, slope) if x >= 1 else 16.0]
+                least = list(map(min, least, found))
+        print(f"| {c:g} | {' | '.join(str(int(digits)) for digits in least)} |")
+    print()
 
 
 def print_near_disc(orders, c):
@@ -508,6 +527,7 @@ def main(words):
     print_self_test(random_modes(20 if quick else 100, 60, 60, 60, KINDS))
     print_measurements((1e-7, 1.0, 20.0) if quick else PARAMETERS)
     print_first_kind((1e-7, 1.0, 20.0) if quick else PARAMETERS)
+    print_first_kind_least((1.0,) if quick else (1e-3, 0.1, 1.0, 5.0, 10.0, 15.0, 20.0, 30.0, 40.0), 12, 20)
     print_near_disc((0, 1, 3, 12) if quick else (0, 1, 2, 3, 5, 8, 12, 20, 30, 50, 80), 1.0)
     print_near_zero([(0, 1), (1, 1), (2, 6), (10, 12)])
     print_zero_pivots(400 if quick else 4000)
