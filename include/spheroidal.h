@@ -26,9 +26,9 @@
  * Where digits end: an answer is what the ported formulas give in doubles. Characteristic values are
  * right to 14 digits, near a zero to 14 digits of c * c; the exact value may lie just outside its
  * bracket. With c from 1e-4 to 10, m up to 12 and n - m up to 15, angular and radial functions have at
- * least 7 right digits and coefficients 11; near the disc the first kind's derivative may have none.
- * Elsewhere there may be none, and NaN and infinity can be answers. docs/ACCURACY.md says where, and how
- * a caller can check.
+ * least 7 right digits and coefficients 11; off the disc, but near it, the first kind's derivative may
+ * have none. Elsewhere there may be none, and NaN and infinity can be answers. docs/ACCURACY.md says
+ * where, and how a caller can check.
  *
  * No argument value is forbidden; each is answered or refused. What C cannot check, the caller keeps:
  *
@@ -43,8 +43,8 @@
  * is the length of a row, (size_t)(n - m) + 1. The constants below need no cast.
  *
  * The functions keep no state, allocate nothing, touch no errno and may run in any number of threads
- * at once. Measured, they use up to 37 KB of stack in rows, 12 KB in spheroidal_oblate_radial, and 6 KB
- * in coefficients and angular functions.
+ * at once. Measured, they use up to 37 KB of stack in rows, 12 KB in spheroidal_oblate_radial, and
+ * 6 KB in coefficients and angular functions.
  */
 #ifndef SPHEROIDAL_H
 #define SPHEROIDAL_H
@@ -102,8 +102,8 @@ static inline const char *spheroidal_refusal_sentence(uint8_t answer) {
     case SPHEROIDAL_REFUSED_CHARACTERISTIC_VALUE:
         return "the characteristic value is not finite";
     case SPHEROIDAL_REFUSED_ARGUMENT:
-        return "x is out of range: -1 to 1 if angular, zero for both radial kinds, finite and not below "
-               "zero for the first alone";
+        return "x is out of range: -1 to 1 if angular, zero for both radial kinds, finite and not "
+               "below zero for the first alone";
     case SPHEROIDAL_REFUSED_BUFFER:
         return "a lent buffer is too short";
     case SPHEROIDAL_REFUSED_ALLOWANCE:
@@ -241,11 +241,11 @@ uint8_t spheroidal_oblate_radial(uint16_t m, uint16_t n, double c, double cv, do
  * it, with cv as above. x is any finite number from zero on; where it is above zero, 2N + m is at most
  * 251 and c * x at most 200. At x of 0.0 and -0.0 it gives what spheroidal_oblate_radial gives.
  *
- * Where digits end: with c from 0.1 to 40, m up to 12 and n - m up to 20, value and derivative have 9
- * right digits or more from x of 0.1 on, and the value has 8 from x of 1e-8 on. Towards the disc the
- * derivative loses digits where n - m is even: its relative error is about 1e-15/(x * x), so that none is
- * right at x of 1e-8. Very near, the value turns to 0 and then to NaN: below x of 1e-66 and 2e-103 for
- * m = n = 3 and c = 1, below 2e-16 and 2e-26 for m = n = 12 and c = 1.
+ * Where digits end: with c from 0.1 to 10, m up to 12 and n - m up to 20, value and derivative have 11
+ * right digits or more from x of 0.1 on, with c up to 40 at least 7; the value has 11 and 6 from x of
+ * 1e-8 on. Towards the disc the derivative loses digits where n - m is even: its relative error is
+ * about 1e-15/(x * x), so that none is right at x of 1e-8. Very near, the value turns to 0 and then to
+ * NaN: below x of 1e-66 and 2e-103 for m = n = 3, of 2e-16 and 2e-26 for m = n = 12, with c = 1.
  *
  * Writes *value and *derivative. Refusals: 4, 5, 6, 7, 8, 11, 12.
  */

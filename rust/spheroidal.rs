@@ -138,8 +138,8 @@ impl Refusal {
             }
             Refusal::CharacteristicValue => "the characteristic value is not finite",
             Refusal::Argument => {
-                "x is out of range: -1 to 1 if angular, zero for both radial kinds, finite and not below \
-                 zero for the first alone"
+                "x is out of range: -1 to 1 if angular, zero for both radial kinds, finite and not \
+                 below zero for the first alone"
             }
             Refusal::Buffer => "a lent buffer is too short",
             Refusal::Allowance => "a value used up its allowance of steps",
