@@ -56,10 +56,10 @@
  * The version. MAJOR moves where a correct program may have to change or gets other answers, MINOR
  * where something is added, PATCH where neither: speed, comments, how it is built.
  */
-#define SPHEROIDAL_VERSION_MAJOR 2
-#define SPHEROIDAL_VERSION_MINOR 1
+#define SPHEROIDAL_VERSION_MAJOR 3
+#define SPHEROIDAL_VERSION_MINOR 0
 #define SPHEROIDAL_VERSION_PATCH 0
-#define SPHEROIDAL_VERSION "2.1.0"
+#define SPHEROIDAL_VERSION "3.0.0"
 
 /*
  * What a function answers. 1 to 3 are refusals of the record program and never come from here. Let

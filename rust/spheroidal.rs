@@ -25,7 +25,7 @@ use std::error::Error;
 use std::fmt;
 
 /// The version, that of the header; which of its numbers moves when is said there.
-pub const VERSION: &str = "2.1.0";
+pub const VERSION: &str = "3.0.0";
 
 /// The largest m.
 pub const LARGEST_ORDER: u16 = 199;
@@ -88,7 +88,7 @@ pub struct Radial {
 }
 
 /// Why a call was refused. The first that applies in this order is the answer. A `match` does well to
-/// have an arm for others: version 2.1 added the last two.
+/// have an arm for others: version 3.0 added the last two.
 #[derive(Clone, Copy, Debug, PartialEq, Eq, Hash)]
 pub enum Refusal {
     /// m > 199, n < m or n − m > 199.
