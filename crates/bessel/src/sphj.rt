@@ -133,16 +133,15 @@ fn derive(x: f64, nm: u32, sj: &[f64; 252], dj: &mut [f64; 252])
     }
 }
 
-// The functions of order 0 to n at x in sj and their derivatives in dj, up to the highest order that
-// `find_orders` gives; above it both are zero.
+// The functions of order 0 to n at x into sj and their derivatives into dj, which are zero before, up
+// to the highest order that `find_orders` gives; above it both stay zero.
 pub fn sphj(x: f64, n: u32, o: Orders, sj: &mut [f64; 252], dj: &mut [f64; 252])
     requires { ⌜ (2 ≤ n) × (n < 252) × (o ≡ Sphj.orders x n) ⌝ }
     requires { ⌜ (o .nm ≤ n) × (o .from ≤ 100010) ⌝ }
+    requires { ⌜ (now sj ≡ Sphj.blank) × (now dj ≡ Sphj.blank) ⌝ }
     ensures { λ _. ⌜ now (sj .exit) ≡ Sphj.sj x n ⌝ }
     ensures { λ _. ⌜ now (dj .exit) ≡ Sphj.dj x n ⌝ }
 {
-    *sj = blank();
-    *dj = blank();
     if tiny(x) {
         sj[0] = 1.0;
         dj[1] = 1.0 / 3.0;

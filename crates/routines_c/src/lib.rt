@@ -119,6 +119,8 @@ pub extern "C" fn routines_sphj(x: f64, n: u32, sj: &mut [f64; 252], dj: &mut [f
     let orders = bessel::sphj::find_orders(x, n);
     let nm = orders.nm;
     let from = orders.from;
+    *sj = bessel::sphj::blank();
+    *dj = bessel::sphj::blank();
     bessel::sphj::sphj(x, n, orders, sj, dj);
     if from == 0 {
         return 0;

@@ -6,12 +6,6 @@ use borrow.Author.Needs.{needs}
 use Rattle.bessel.proofs.sphj.sphj.Statement.{statement}
 use Rattle.bessel.proofs.sphj.sphj.Tie as tie
 
-blank-requires : tie.Need-blank-requires
-blank-requires c κs = search needs
-
-blank-requires-2 : tie.Need-blank-requires-2
-blank-requires-2 c κs = search needs
-
 tiny-requires : tie.Need-tiny-requires
 tiny-requires c κs = search needs
 
@@ -22,7 +16,9 @@ element-write-dj : tie.Need-element-write-dj
 element-write-dj c = search needs
 
 returns : tie.Need-returns
-returns c = near-zero _ _ _ _ (c .before .before .before .blank .ensures) (c .before .before .blank2 .ensures) (sym (c .before .tiny .ensures) ∙ c .if1 .taken)
+returns c =
+    let b = c .before .before .pre .1 .1 in
+    near-zero _ _ _ _ (b .0) (b .1) (sym (c .before .tiny .ensures) ∙ c .if1 .taken)
 
 lowest-orders-requires : tie.Need-lowest-orders-requires
 lowest-orders-requires c κs = search needs
@@ -47,15 +43,13 @@ derive-requires c κs = search needs
 
 returns-2 : tie.Need-returns-2
 returns-2 c =
-    let p = c .before .before .before .before .before .before .before .before .before .before .before .before .before .pre in
-    far-off _ _ _ _ (c .before .before .before .before .before .before .before .before .before .before .before .before .blank .ensures) (c .before .before .before .before .before .before .before .before .before .before .before .blank2 .ensures) (sym (c .before .before .before .before .before .before .before .before .before .before .tiny .ensures) ∙ c .before .before .before .before .before .before .before .before .before .if1 .left) _ _ _ _ _ _ _ (p .0 .2) (c .before .before .before .before .before .before .before .before .lowest-orders .ensures) (c .before .before .before .before .before .before .recur .ensures) (c .before .before .before .before .before .factor .ensures) (add-one _) (c .before .before .before .scale .ensures) (c .derive .ensures)
+    let p = c .before .before .before .before .before .before .before .before .before .before .before .pre in
+    far-off _ _ _ _ (p .1 .1 .0) (p .1 .1 .1) (sym (c .before .before .before .before .before .before .before .before .before .before .tiny .ensures) ∙ c .before .before .before .before .before .before .before .before .before .if1 .left) _ _ _ _ _ _ _ (p .0 .2) (c .before .before .before .before .before .before .before .before .lowest-orders .ensures) (c .before .before .before .before .before .before .recur .ensures) (c .before .before .before .before .before .factor .ensures) (add-one _) (c .before .before .before .scale .ensures) (c .derive .ensures)
 
 pub sphj-spec : {M : Type 1} → statement M
 sphj-spec =
     tie.close
     (tie.spec
-    blank-requires
-    blank-requires-2
     tiny-requires
     element-write-sj
     element-write-dj

@@ -51,7 +51,7 @@ add-sphj : tie.Need-add-sphj
 add-sphj c = search needs
 
 sphj-requires : tie.Need-sphj-requires
-sphj-requires c κs = let f = orders-fit (c .before .before .before .before .before .before .before) in ((f .0, f .1, c .before .before .before .before .before .before .find-orders .ensures .0), c .before .before .before .before .before .before .find-orders .ensures .1)
+sphj-requires c κs = let f = orders-fit (c .before .before .before .before .before .before .before) in ((f .0, f .1, c .before .before .before .before .before .before .find-orders .ensures .0), (c .before .before .before .before .before .before .find-orders .ensures .1, (c .before .before .before .blank .ensures, c .before .before .blank2 .ensures)))
 
 regulator-requires : tie.Need-regulator-requires
 regulator-requires c κs = search needs
