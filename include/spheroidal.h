@@ -43,8 +43,8 @@
  * is the length of a row, (size_t)(n - m) + 1. The constants below need no cast.
  *
  * The functions keep no state, allocate nothing, touch no errno and may run in any number of threads
- * at once. Measured, they use up to 37 KB of stack in rows, 12 KB in spheroidal_oblate_radial, and
- * 6 KB in coefficients and angular functions.
+ * at once. Measured, they use up to 37 KB of stack in rows, 12 KB in radial functions and 6 KB in the
+ * others.
  */
 #ifndef SPHEROIDAL_H
 #define SPHEROIDAL_H
