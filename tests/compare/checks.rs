@@ -135,7 +135,11 @@ impl OwnChecks {
             record.c * record.x,
             highest_order(record.m, record.n, record.c),
         );
-        let theirs = (msta1(x, 200), second.as_ref().map(|_| msta2(x, n, 15)));
+        let served = Build::PowerRule;
+        let theirs = (
+            msta1(served, x, 200),
+            second.as_ref().map(|_| msta2(served, x, n, 15)),
+        );
         let agree = first.last() == Some(&theirs.0)
             && second.as_ref().map(|orders| orders[orders.len() - 1] + 10) == theirs.1;
         self.orders.count(agree, || {
