@@ -22,39 +22,39 @@ abbrev Found : Search → Type 0
 Found (Converged r) = Unit {0}
 Found OutOfSteps = ⊥
 
-module _ (ds fs : List Float) (entries places : ℕ) where
-  bisection-more : (place a b : ℕ) (r : Bracket) (s : Ends) → a ≤ b → Found (bisection ds fs entries places place a r s .found)
-      → bisection ds fs entries places place b r s ≡ bisection ds fs entries places place a r s
+module _ (ds es : List Float) (entries places : ℕ) where
+  bisection-more : (place a b : ℕ) (r : Bracket) (s : Ends) → a ≤ b → Found (bisection ds es entries places place a r s .found)
+      → bisection ds es entries places place b r s ≡ bisection ds es entries places place a r s
   unfolding bisection
   bisection-more place zero b r s h f = absurd f
   bisection-more place (suc a) zero r s h f = absurd (omega arith)
   bisection-more place (suc a) (suc b) r s h f =
       let m = withMidpoint r in
-      let count = negativePivots ds fs entries (m .value) in
+      let count = negativePivots ds es entries (m .value) in
       go (converged m) (record { found = Converged m; ends = s }) (bisection-more place a b (tighten count place m) (tightenOthers places place count (m .value) s) (omega arith)) f
     where
       go : (t : Bool) {x y : Outcome} (z : Outcome) → (Found (y .found) → x ≡ y) → Found (cond t z y .found) → cond t z x ≡ cond t z y
       go true z e g = refl
       go false z e g = e g
 
-  family-more : (a b : ℕ) → a ≤ b → (n p : ℕ) (s : Ends) (out : List Bracket) → familyFrom ds fs entries places a n p s out .stopped ≡ false
-      → familyFrom ds fs entries places b n p s out ≡ familyFrom ds fs entries places a n p s out
+  family-more : (a b : ℕ) → a ≤ b → (n p : ℕ) (s : Ends) (out : List Bracket) → familyFrom ds es entries places a n p s out .stopped ≡ false
+      → familyFrom ds es entries places b n p s out ≡ familyFrom ds es entries places a n p s out
   unfolding familyFrom
   family-more a b h zero p s out k = refl
   family-more a b h (suc n) p s out k =
-      let x = bisection ds fs entries places (p + 1) b (openedAt s p places) s in
-      let y = bisection ds fs entries places (p + 1) a (openedAt s p places) s in
+      let x = bisection ds es entries places (p + 1) b (openedAt s p places) s in
+      let y = bisection ds es entries places (p + 1) a (openedAt s p places) s in
       go x y (y .found) refl (bisection-more (p + 1) a b (openedAt s p places) s h) (family-more a b h n (p + 1)) k
     where
       -- the families after this place, by its outcome
       next : ℕ → Outcome → Bracket → Family
-      next allowance o r = familyFrom ds fs entries places allowance n (p + 1) (ends (o .ends .uppers) (set (o .ends .lowers) p (r .lower))) (set out p r)
+      next allowance o r = familyFrom ds es entries places allowance n (p + 1) (ends (o .ends .uppers) (set (o .ends .lowers) p (r .lower))) (set out p r)
 
       halted : Family
       halted = record { stopped = true; brackets = out }
 
       go : (x y : Outcome) (f : Search) → y .found ≡ f → (Found (y .found) → x ≡ y)
-          → ((s : Ends) (out : List Bracket) → familyFrom ds fs entries places a n (p + 1) s out .stopped ≡ false → familyFrom ds fs entries places b n (p + 1) s out ≡ familyFrom ds fs entries places a n (p + 1) s out)
+          → ((s : Ends) (out : List Bracket) → familyFrom ds es entries places a n (p + 1) s out .stopped ≡ false → familyFrom ds es entries places b n (p + 1) s out ≡ familyFrom ds es entries places a n (p + 1) s out)
           → onSearch (y .found) halted (next a y) .stopped ≡ false → onSearch (x .found) halted (next b x) ≡ onSearch (y .found) halted (next a y)
       go x y (Converged r) e same again k =
           let g : Found (y .found) = rw e tt in

@@ -14,7 +14,7 @@ use Rattle.segv.specs.declared.families.Family.{Family}
 use Rattle.sturm.specs.declared.pivots.Count.{Count}
 use Rattle.sturm.specs.Pivots.{negativePivots}
 use Rattle.sturm.specs.Bounds.{boundsOf}
-use Rattle.sturm.specs.Entries.{diagonal, offDiagonal, squares}
+use Rattle.sturm.specs.Entries.{diagonal, offDiagonal}
 use Rattle.segv.specs.Bisection.{Ends, bisection, withMidpoint, converged, tighten, tightenOthers}
 use Rattle.segv.specs.Families.{openedAt, familyFrom, bisectedFamily, blankBracket, familyOf, Families, bothFamilies, eitherStopped}
 use Rattle.segv.specs.Inside.Arrays.{ends, families}
@@ -29,56 +29,56 @@ pub tightened : (places number : ℕ) (j : Count) (x : Float) (s : Ends) (us ls 
     → ends us ls ≡ tightenOthers places number j x s
 tightened places number j x s us ls hu hl = rw (hu, hl)
 
-module _ (ds fs : List Float) (entries places number : ℕ) where
-  pub out-of-steps : (r : Bracket) (s : Ends) → bisection ds fs entries places number 0 r s ≡ record { found = OutOfSteps; ends = s }
+module _ (ds es : List Float) (entries places number : ℕ) where
+  pub out-of-steps : (r : Bracket) (s : Ends) → bisection ds es entries places number 0 r s ≡ record { found = OutOfSteps; ends = s }
   unfolding bisection
   out-of-steps r s = refl
 
   pub met : (left l : ℕ) (r h : Bracket) (s : Ends) (b : Bool) → left ≡ suc l → h ≡ withMidpoint r → b ≡ converged h → b ≡ true
-      → bisection ds fs entries places number left r s ≡ record { found = Converged h; ends = s }
+      → bisection ds es entries places number left r s ≡ record { found = Converged h; ends = s }
   unfolding bisection
   met left l r h s b hl hh hb ht = rw (hl, ← hh, ← hb, ht)
 
   pub on : (left l : ℕ) (r h : Bracket) (s : Ends) (b : Bool) (j : Count) (t : Bracket) (after : Ends) → left ≡ suc l → h ≡ withMidpoint r → b ≡ converged h → b ≡ false
-      → j ≡ negativePivots ds fs entries (h .value) → t ≡ tighten j number h → after ≡ tightenOthers places number j (h .value) s
-      → bisection ds fs entries places number left r s ≡ bisection ds fs entries places number l t after
+      → j ≡ negativePivots ds es entries (h .value) → t ≡ tighten j number h → after ≡ tightenOthers places number j (h .value) s
+      → bisection ds es entries places number left r s ≡ bisection ds es entries places number l t after
   unfolding bisection
   on left l r h s b j t after hl hh hb hf hj ht ha = rw (hl, ← hh, ← hb, hf, ← hj, ← ht, ← ha)
 
-module _ (ds fs : List Float) (entries places allowance : ℕ) where
+module _ (ds es : List Float) (entries places allowance : ℕ) where
   abbrev Fam : ℕ → ℕ → Ends → List Bracket → Family
-  Fam = familyFrom ds fs entries places allowance
+  Fam = familyFrom ds es entries places allowance
 
   pub all-found : (p : ℕ) (s : Ends) (out : List Bracket) → Fam 0 p s out ≡ record { stopped = false; brackets = out }
   unfolding familyFrom
   all-found p s out = refl
 
   pub one-out-of-steps : (left l p : ℕ) (start : Bracket) (s after : Ends) (out : List Bracket) (r : Search) → left ≡ suc l → start ≡ openedAt s p places
-      → record { found = r; ends = after } ≡ bisection ds fs entries places (p + 1) allowance start s → r ≡ OutOfSteps
+      → record { found = r; ends = after } ≡ bisection ds es entries places (p + 1) allowance start s → r ≡ OutOfSteps
       → Fam left p s out ≡ record { stopped = true; brackets = out }
   unfolding familyFrom
   one-out-of-steps left l p start s after out r hl ho b h = rw (hl, ← ho, ← b, h)
 
   pub one-found : (left l p : ℕ) (start : Bracket) (s after : Ends) (out : List Bracket) (r : Search) (v : Bracket) → left ≡ suc l → start ≡ openedAt s p places
-      → record { found = r; ends = after } ≡ bisection ds fs entries places (p + 1) allowance start s → r ≡ Converged v
+      → record { found = r; ends = after } ≡ bisection ds es entries places (p + 1) allowance start s → r ≡ Converged v
       → Fam left p s out ≡ Fam l (p + 1) (ends (after .uppers) (set (after .lowers) p (v .lower))) (set out p v)
   unfolding familyFrom
   one-found left l p start s after out r v hl ho b h = rw (hl, ← ho, ← b, h)
 
 -- from the first place on
-pub from-first : (ds fs : List Float) (entries places allowance : ℕ) (bounds : Bounds) (us ls : List Float) (out : List Bracket)
+pub from-first : (ds es : List Float) (entries places allowance : ℕ) (bounds : Bounds) (us ls : List Float) (out : List Bracket)
     → us ≡ replicate 100 (bounds .upper) → ls ≡ replicate 100 (bounds .lower) → out ≡ replicate 100 blankBracket
-    → familyFrom ds fs entries places allowance (places - 0) 0 (ends us ls) out ≡ bisectedFamily ds fs entries places allowance bounds
+    → familyFrom ds es entries places allowance (places - 0) 0 (ends us ls) out ≡ bisectedFamily ds es entries places allowance bounds
 unfolding bisectedFamily
-from-first ds fs entries places allowance bounds us ls out hu hl ho =
+from-first ds es entries places allowance bounds us ls out hu hl ho =
     let e : places - 0 ≡ places = omega arith in rw (e, hu, hl, ho)
 
-pub family-is : (m parity : ℕ) (cs : Float) (entries places allowance : ℕ) (d e f : List Float) (bounds : Bounds) (r : Family)
-    → r ≡ bisectedFamily d f entries places allowance bounds → bounds ≡ boundsOf d e entries
-    → d ≡ diagonal m parity cs entries → e ≡ offDiagonal m parity cs entries → f ≡ squares m parity cs entries
+pub family-is : (m parity : ℕ) (cs : Float) (entries places allowance : ℕ) (d e : List Float) (bounds : Bounds) (r : Family)
+    → r ≡ bisectedFamily d e entries places allowance bounds → bounds ≡ boundsOf d e entries
+    → d ≡ diagonal m parity cs entries → e ≡ offDiagonal m parity cs entries
     → r ≡ familyOf m parity cs entries places allowance
 unfolding familyOf
-family-is m parity cs entries places allowance d e f bounds r hr hh hd he hf = rw (hr, hh, hd, he, hf)
+family-is m parity cs entries places allowance d e bounds r hr hh hd he = rw (hr, hh, hd, he)
 
 -- ---- the row
 

@@ -50,12 +50,12 @@ stored P d (y ∷ l) zero (suc q) a old new = old
 stored P d (y ∷ l) (suc i) zero a old new = old
 stored P d (y ∷ l) (suc i) (suc q) a old new = stored P d l i q a old (λ e. new (ap suc e))
 
-module _ (ds fs : List Float) (entries : ℕ) (bounds : Bounds) (allowance : ℕ) where
+module _ (ds es : List Float) (entries : ℕ) (bounds : Bounds) (allowance : ℕ) where
   abbrev Lo : ℕ → Float → Type 0
-  Lo = Below ds fs entries bounds
+  Lo = Below ds es entries bounds
 
   abbrev Hi : ℕ → Float → Type 0
-  Hi = Above ds fs entries bounds
+  Hi = Above ds es entries bounds
 
   lo-more : (n k : ℕ) (x : Float) → n ≤ k → Lo n x → Lo k x
   lo-more n k x h (inl e) = inl e
@@ -72,11 +72,11 @@ module _ (ds fs : List Float) (entries : ℕ) (bounds : Bounds) (allowance : ℕ
 
   -- ---- the other places
 
-  tightenCounted-good : (places : ℕ) (j : Count) (x : Float) (s : Ends) → 0 < places → 0 < j .negative → negativePivots ds fs entries x ≡ j → Good places s → Good places (tightenCounted places j x s)
+  tightenCounted-good : (places : ℕ) (j : Count) (x : Float) (s : Ends) → 0 < places → 0 < j .negative → negativePivots ds es entries x ≡ j → Good places s → Good places (tightenCounted places j x s)
   unfolding tightenCounted
   tightenCounted-good places j x s hp hj hc g =
       let k = j .negative in
-      let hk : negativePivots ds fs entries x .negative ≡ k = ap (λ (c : Count). c .negative) hc in
+      let hk : negativePivots ds es entries x .negative ≡ k = ap (λ (c : Count). c .negative) hc in
       cases (Good places) (leb places k) _ _
       (λ e.
       let le : places ≤ k = leb-true places k e in
@@ -95,7 +95,7 @@ module _ (ds fs : List Float) (entries : ℕ) (bounds : Bounds) (allowance : ℕ
             (λ eq. lesser-one (Hi (q + 1)) (at (s .uppers) (k - 1)) x (rw (← eq) (g .highs q hq)) (inr (omega arith)));
       })
 
-  tighten-good : (places number : ℕ) (j : Count) (x : Float) (s : Ends) → 0 < places → 0 < number → negativePivots ds fs entries x ≡ j → Good places s → Good places (tightenOthers places number j x s)
+  tighten-good : (places number : ℕ) (j : Count) (x : Float) (s : Ends) → 0 < places → 0 < number → negativePivots ds es entries x ≡ j → Good places s → Good places (tightenOthers places number j x s)
   unfolding tightenOthers
   tighten-good places number j x s hp hn hc g =
       cases (Good places) (leb number (j .negative)) _ _ (λ e. tightenCounted-good places j x s hp (let le : number ≤ j .negative = leb-true number (j .negative) e in omega arith) hc g) (λ e. g)
@@ -125,21 +125,21 @@ module _ (ds fs : List Float) (entries : ℕ) (bounds : Bounds) (allowance : ℕ
         high = first-good places (p + 1) (s .uppers) _ (g .highs) (g .highs p hp) (p + 1) (places - (p + 1)) (omega arith) (omega arith);
       }
 
-  tighten-open : (number : ℕ) (h : Bracket) → Open number h → Open number (tighten (negativePivots ds fs entries (h .value)) number h)
+  tighten-open : (number : ℕ) (h : Bracket) → Open number h → Open number (tighten (negativePivots ds es entries (h .value)) number h)
   unfolding tighten
   tighten-open number h o =
       record {
         low = cases (Lo number) _ _ _ (λ e. inr (ltb-true _ _ e)) (λ _. o .low);
-        high = cases (Hi number) (ltb (negativePivots ds fs entries (h .value) .negative) number) _ _ (λ _. o .high) (λ e. inr (ltb-false _ _ e));
+        high = cases (Hi number) (ltb (negativePivots ds es entries (h .value) .negative) number) _ _ (λ _. o .high) (λ e. inr (ltb-false _ _ e));
       }
 
   -- ---- the place's own counts
 
   abbrev Shifts : ℕ → ℕ → Bracket → List Float
-  Shifts = countedAt ds fs entries
+  Shifts = countedAt ds es entries
 
   abbrev Any : List Float → Bool
-  Any = anySubstituted ds fs entries
+  Any = anySubstituted ds es entries
 
   -- with what is left to count they are all that are made from the first bracket on
   record Counting (number : ℕ) (first : Bracket) (left : ℕ) (r : Bracket) : Type 0 where
@@ -155,13 +155,13 @@ module _ (ds fs : List Float) (entries : ℕ) (bounds : Bounds) (allowance : ℕ
   or-assoc false b c = refl
 
   module _ (number : ℕ) (first : Bracket) (left : ℕ) (r : Bracket) (c : Counting number first (suc left) r) where
-    all-counted : converged (withMidpoint r) ≡ true → OwnCounts ds fs entries allowance number (withMidpoint r)
+    all-counted : converged (withMidpoint r) ≡ true → OwnCounts ds es entries allowance number (withMidpoint r)
     unfolding countedAt anySubstituted withMidpoint
     all-counted e =
         let k : r .steps + 0 ≡ length (Shifts number allowance first) = rw e at (c .steps) in
         record { opened = first; one-a-step = omega arith; flag = sym (or-none (r .substituted)) ∙ rw e at (c .flag) }
 
-    counting-on : converged (withMidpoint r) ≡ false → Counting number first left (tighten (negativePivots ds fs entries (withMidpoint r .value)) number (withMidpoint r))
+    counting-on : converged (withMidpoint r) ≡ false → Counting number first left (tighten (negativePivots ds es entries (withMidpoint r .value)) number (withMidpoint r))
     unfolding countedAt anySubstituted withMidpoint tighten
     counting-on e =
         let k : r .steps + suc (length (Shifts number left _)) ≡ length (Shifts number allowance first) = rw e at (c .steps) in
@@ -170,7 +170,7 @@ module _ (ds fs : List Float) (entries : ℕ) (bounds : Bounds) (allowance : ℕ
   -- ---- the bisection
 
   SoundFound : ℕ → Search → Type 0
-  SoundFound number (Converged r) = Sound ds fs entries bounds allowance number r
+  SoundFound number (Converged r) = Sound ds es entries bounds allowance number r
   SoundFound number OutOfSteps = Unit {0}
 
   record Held (places number : ℕ) (b : Outcome) : Type 0 where
@@ -178,7 +178,7 @@ module _ (ds fs : List Float) (entries : ℕ) (bounds : Bounds) (allowance : ℕ
     left : Good places (b .ends)
 
   bisection-sound : (places number : ℕ) (first : Bracket) → 0 < places → 0 < number → (left : ℕ) (r : Bracket) (s : Ends) → r .steps + left ≡ allowance → Counting number first left r → Open number r → Good places s
-      → Held places number (bisection ds fs entries places number left r s)
+      → Held places number (bisection ds es entries places number left r s)
   unfolding bisection withMidpoint converged tighten SoundFound
   bisection-sound places number first hp hn zero r s k c o g = record { found = tt; left = g }
   bisection-sound places number first hp hn (suc left) r s k c o g =
@@ -191,30 +191,30 @@ module _ (ds fs : List Float) (entries : ℕ) (bounds : Bounds) (allowance : ℕ
   -- ---- the family
 
   abbrev Sounds : ℕ → List Bracket → Type 0
-  Sounds n out = (q : ℕ) → q < n → Sound ds fs entries bounds allowance (q + 1) (getD out q noBracket)
+  Sounds n out = (q : ℕ) → q < n → Sound ds es entries bounds allowance (q + 1) (getD out q noBracket)
 
   abbrev Fine : ℕ → Family → Type 0
   Fine places f = f .stopped ≡ false → Sounds places (f .brackets)
 
   by-found : (P : Family → Type 0) (number : ℕ) (f : Search) (left : Family) (next : Bracket → Family)
-      → SoundFound number f → P left → ((r : Bracket) → Sound ds fs entries bounds allowance number r → P (next r)) → P (onSearch f left next)
+      → SoundFound number f → P left → ((r : Bracket) → Sound ds es entries bounds allowance number r → P (next r)) → P (onSearch f left next)
   unfolding SoundFound
   by-found P number (Converged r) left next h a b = b r h
   by-found P number OutOfSteps left next h a b = a
 
-  one-more : (p : ℕ) (out : List Bracket) (r : Bracket) → p < length out → Sound ds fs entries bounds allowance (p + 1) r → Sounds p out → Sounds (p + 1) (set out p r)
+  one-more : (p : ℕ) (out : List Bracket) (r : Bracket) → p < length out → Sound ds es entries bounds allowance (p + 1) r → Sounds p out → Sounds (p + 1) (set out p r)
   one-more p out r h new old q hq = pick (ℕ-discrete q p)
     where
-      pick : Dec (q ≡ p) → Sound ds fs entries bounds allowance (q + 1) (getD (set out p r) q noBracket)
+      pick : Dec (q ≡ p) → Sound ds es entries bounds allowance (q + 1) (getD (set out p r) q noBracket)
       pick (yes e) = rw (e, getD-set-same out p r noBracket h) new
       pick (no ne) = rw (getD-set-other out p q r noBracket ne) (old q (omega arith))
 
   from-sound : (places : ℕ) → 0 < places → places ≤ 100 → (n p : ℕ) (s : Ends) (out : List Bracket) → p + n ≡ places → length out ≡ 100
-      → Good places s → Sounds p out → Fine places (familyFrom ds fs entries places allowance n p s out)
+      → Good places s → Sounds p out → Fine places (familyFrom ds es entries places allowance n p s out)
   unfolding familyFrom openedAt
   from-sound places hp hl zero p s out hn ho g old = λ _ q hq. old q (omega arith)
   from-sound places hp hl (suc n) p s out hn ho g old =
-      let b = bisection ds fs entries places (p + 1) allowance (openedAt s p places) s in
+      let b = bisection ds es entries places (p + 1) allowance (openedAt s p places) s in
       let k : Held places (p + 1) b = bisection-sound places (p + 1) (openedAt s p places) hp (omega arith) allowance (openedAt s p places) s (zero-add allowance) (record { steps = zero-add _; flag = refl }) (open-good places p s (omega arith) g) g in
       by-found (Fine places) (p + 1) (b .found) _ _ (k .found)
       (λ e. not-left e)
@@ -225,7 +225,7 @@ module _ (ds fs : List Float) (entries : ℕ) (bounds : Bounds) (allowance : ℕ
       })
       (one-more p out r (omega arith) h old))
 
-  all-sound : (places : ℕ) → 0 < places → places ≤ 100 → Fine places (bisectedFamily ds fs entries places allowance bounds)
+  all-sound : (places : ℕ) → 0 < places → places ≤ 100 → Fine places (bisectedFamily ds es entries places allowance bounds)
   unfolding bisectedFamily
   all-sound places hp hl =
       from-sound places hp hl places 0 _ _ (omega arith) (length-replicate 100 blankBracket)

@@ -63,13 +63,13 @@ pub record Outcome : Type 0 where
   pub found : Search
   pub ends : Ends
 
--- of the matrix with the diagonal ds, the squares fs and this many entries
-module _ (ds fs : List Float) (entries places : ℕ) where
+-- of the matrix with the diagonal ds, the roots es beside it and this many entries
+module _ (ds es : List Float) (entries places : ℕ) where
   -- With an allowance of so many steps: the passing step's bracket is the one that its test used. Where no step is left, the place is out of steps.
   unfoldable pub bisection : ℕ → ℕ → Bracket → Ends → Outcome
   bisection place zero r s = record { found = OutOfSteps; ends = s }
   bisection place (suc left) r s =
       let tested = withMidpoint r in
-      let count = negativePivots ds fs entries (tested .value) in
+      let count = negativePivots ds es entries (tested .value) in
       let later = bisection place left (tighten count place tested) (tightenOthers places place count (tested .value) s) in
       cond (converged tested) (record { found = Converged tested; ends = s }) later

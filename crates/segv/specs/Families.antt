@@ -9,7 +9,7 @@ use Rattle.arith.specs.Double.{#0, at}
 use Rattle.arith.specs.Choice.{greater}
 use Rattle.sturm.specs.declared.gershgorin_bounds.Bounds.{Bounds}
 use Rattle.sturm.specs.Bounds.{boundsOf}
-use Rattle.sturm.specs.Entries.{diagonal, offDiagonal, squares}
+use Rattle.sturm.specs.Entries.{diagonal, offDiagonal}
 use Rattle.segv.specs.declared.bisection.Bracket.{Bracket}
 use Rattle.segv.specs.declared.bisection.Search.{Search}
 use Rattle.segv.specs.declared.bisection.Search.the-variants.{Converged, OutOfSteps}
@@ -48,14 +48,14 @@ onSearch OutOfSteps stopped next = stopped
 unfoldable pub blankBracket : Bracket
 blankBracket = record { value = #0; lower = #0; upper = #0; steps = 0; substituted = false }
 
--- of the matrix with the diagonal ds, the squares fs and this many entries; each place has an allowance of so many steps
-module _ (ds fs : List Float) (entries places allowance : ℕ) where
+-- of the matrix with the diagonal ds, the roots es beside it and this many entries; each place has an allowance of so many steps
+module _ (ds es : List Float) (entries places allowance : ℕ) where
   -- n places from the one at p on; s has the ends so far and `out` the brackets found so far. The first place that is out of steps stops the family.
   -- The lower found is kept, since the next place's may rise to it. The upper found is not, though the source keeps both: a place looks at its own upper and at those of later places only.
   unfoldable pub familyFrom : ℕ → ℕ → Ends → List Bracket → Family
   familyFrom zero p s out = record { stopped = false; brackets = out }
   familyFrom (suc n) p s out =
-      let b = bisection ds fs entries places (p + 1) allowance (openedAt s p places) s in
+      let b = bisection ds es entries places (p + 1) allowance (openedAt s p places) s in
       onSearch (b .found) (record { stopped = true; brackets = out })
       (λ r. familyFrom n (p + 1) (record { uppers = b .ends .uppers; lowers = set (b .ends .lowers) p (r .lower) }) (set out p r))
 
@@ -70,8 +70,7 @@ unfoldable pub familyOf : ℕ → ℕ → Float → ℕ → ℕ → ℕ → Fami
 familyOf m parity cs entries places allowance =
     let ds = diagonal m parity cs entries in
     let es = offDiagonal m parity cs entries in
-    let fs = squares m parity cs entries in
-    bisectedFamily ds fs entries places allowance (boundsOf ds es entries)
+    bisectedFamily ds es entries places allowance (boundsOf ds es entries)
 
 -- ---- both families of the modes from m to n
 

@@ -11,23 +11,24 @@ use Rattle.arith.specs.Choice.{abs}
 use Rattle.sturm.specs.declared.gershgorin_bounds.Bounds.{Bounds}
 use Rattle.sturm.specs.Pivots.{negativePivots}
 use Rattle.sturm.specs.Bounds.{boundsOf}
-use Rattle.sturm.specs.Entries.{diagonal, offDiagonal, squares}
+use Rattle.sturm.specs.Entries.{diagonal, offDiagonal}
 use Rattle.segv.specs.declared.bisection.Bracket.{Bracket}
 use Rattle.segv.specs.Bisection.{withMidpoint, converged, tighten}
 
-module _ (ds fs : List Float) (entries : ℕ) where
+-- of the matrix with the diagonal ds, the roots es beside it and this many entries
+module _ (ds es : List Float) (entries : ℕ) where
   -- the shifts at which a place is counted from a bracket on, with an allowance of so many steps: each step's midpoint, but for the passing step's
   unfoldable pub countedAt : ℕ → ℕ → Bracket → List Float
   countedAt place zero r = []
   countedAt place (suc left) r =
       let tested = withMidpoint r in
-      let later = countedAt place left (tighten (negativePivots ds fs entries (tested .value)) place tested) in
+      let later = countedAt place left (tighten (negativePivots ds es entries (tested .value)) place tested) in
       cond (converged tested) [] (tested .value ∷ later)
 
   -- was 1e-30 put in during any count at these shifts
   unfoldable pub anySubstituted : List Float → Bool
   anySubstituted [] = false
-  anySubstituted (x ∷ xs) = negativePivots ds fs entries x .substituted || anySubstituted xs
+  anySubstituted (x ∷ xs) = negativePivots ds es entries x .substituted || anySubstituted xs
 
   -- A place's yes or no is over all counts made for it, from the bracket on that it was opened with, and over no others. There is one for each step but the passing one.
   pub record OwnCounts (allowance place : ℕ) (r : Bracket) : Type 0 where
@@ -35,14 +36,14 @@ module _ (ds fs : List Float) (entries : ℕ) where
     pub one-a-step : r .steps ≡ length (countedAt place allowance opened) + 1
     pub flag : r .substituted ≡ anySubstituted (countedAt place allowance opened)
 
-module _ (ds fs : List Float) (entries : ℕ) (bounds : Bounds) where
+module _ (ds es : List Float) (entries : ℕ) (bounds : Bounds) where
   -- fewer negative pivots than the place's number, or the lower Gershgorin bound
   abbrev pub Below : ℕ → Float → Type 0
-  Below place x = (x ≡ bounds .lower) ⊎ (negativePivots ds fs entries x .negative < place)
+  Below place x = (x ≡ bounds .lower) ⊎ (negativePivots ds es entries x .negative < place)
 
   -- that many or more, or the upper Gershgorin bound
   abbrev pub Above : ℕ → Float → Type 0
-  Above place x = (x ≡ bounds .upper) ⊎ (place ≤ negativePivots ds fs entries x .negative)
+  Above place x = (x ≡ bounds .upper) ⊎ (place ≤ negativePivots ds es entries x .negative)
 
   pub record Sound (allowance place : ℕ) (r : Bracket) : Type 0 where
     -- the value is the rounded midpoint
@@ -54,11 +55,11 @@ module _ (ds fs : List Float) (entries : ℕ) (bounds : Bounds) where
     -- a step at least, and no more than were allowed
     pub stepped : 1 ≤ r .steps
     pub allowed : r .steps ≤ allowance
-    pub own : OwnCounts ds fs entries allowance place r
+    pub own : OwnCounts ds es entries allowance place r
 
 -- with the matrix and the bounds of a parity
 abbrev pub SoundIn : ℕ → ℕ → Float → ℕ → ℕ → ℕ → Bracket → Type 0
 SoundIn m parity cs entries allowance place r =
-    Sound (diagonal m parity cs entries) (squares m parity cs entries) entries
+    Sound (diagonal m parity cs entries) (offDiagonal m parity cs entries) entries
     (boundsOf (diagonal m parity cs entries) (offDiagonal m parity cs entries) entries)
     allowance place r

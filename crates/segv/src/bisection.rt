@@ -101,9 +101,9 @@ fn tighten_others(
 
 // The counts at the midpoint of r, which is its value, at the two midpoints that the next step may
 // come to, l in the lower half and h in the upper, and at the four of the step after.
-fn counts_ahead(d: &[f64; 300], f: &[f64; 300], entries: usize, r: Bracket) -> sturm::Counts
+fn counts_ahead(d: &[f64; 300], e: &[f64; 300], entries: usize, r: Bracket) -> sturm::Counts
     requires { ⌜ entries ≤ 300 ⌝ }
-    ensures { λ k. ⌜ k ≡ countsAt (negativePivots (now (d .entry)) (now (f .entry)) entries) (midpointsAhead r) ⌝ }
+    ensures { λ k. ⌜ k ≡ countsAt (negativePivots (now (d .entry)) (now (e .entry)) entries) (midpointsAhead r) ⌝ }
 {
     let x = r.value;
     let l = (x + r.lower) / 2.0;
@@ -117,7 +117,7 @@ fn counts_ahead(d: &[f64; 300], f: &[f64; 300], entries: usize, r: Bracket) -> s
         hl: (h + x) / 2.0,
         hh: (r.upper + h) / 2.0,
     };
-    sturm::negative_pivots(d, f, entries, midpoints)
+    sturm::negative_pivots(d, e, entries, midpoints)
 }
 
 // The counts that are left after a step: those of the half that the count at x leaves.
@@ -176,7 +176,7 @@ fn counts_after(counts: sturm::Counts, place: usize) -> sturm::Counts
 // little longer than for one.
 pub(crate) fn bisect(
     d: &[f64; 300],
-    f: &[f64; 300],
+    e: &[f64; 300],
     entries: usize,
     places: usize,
     place: usize,
@@ -187,7 +187,7 @@ pub(crate) fn bisect(
 ) -> Search
     requires { ⌜ (entries ≤ 300) × (0 < place) × (place ≤ places) × (places ≤ 100) × (start .steps ≡ 0) ⌝ }
     ensures { λ r. ⌜ record { found = r; ends = ends (now (uppers .exit)) (now (lowers .exit)) }
-        ≡ Bisection.bisection (now (d .entry)) (now (f .entry)) entries places place allowance start (ends (now (uppers .entry)) (now (lowers .entry))) ⌝ }
+        ≡ Bisection.bisection (now (d .entry)) (now (e .entry)) entries places place allowance start (ends (now (uppers .entry)) (now (lowers .entry))) ⌝ }
 {
     let mut r = start;
     let mut left = allowance;
@@ -201,7 +201,7 @@ pub(crate) fn bisect(
             return Search::Converged(r);
         }
         if known == 0 {
-            counts = counts_ahead(d, f, entries, r);
+            counts = counts_ahead(d, e, entries, r);
             known = 3;
         }
         let x = r.value;

@@ -76,14 +76,14 @@ fn blank_brackets() -> [Bracket; 100]
 // All places, each from its own start. The first that is out of steps stops the family.
 fn bisect_family(
     d: &[f64; 300],
-    f: &[f64; 300],
+    e: &[f64; 300],
     entries: usize,
     places: usize,
     allowance: u16,
     bounds: sturm::Bounds,
 ) -> Family
     requires { ⌜ (entries ≤ 300) × (places ≤ 100) ⌝ }
-    ensures { λ r. ⌜ r ≡ Families.bisectedFamily (now (d .entry)) (now (f .entry)) entries places allowance bounds ⌝ }
+    ensures { λ r. ⌜ r ≡ Families.bisectedFamily (now (d .entry)) (now (e .entry)) entries places allowance bounds ⌝ }
 {
     let mut uppers = hundred(bounds.upper);
     let mut lowers = hundred(bounds.lower);
@@ -93,7 +93,7 @@ fn bisect_family(
         let start = opened(&uppers, &lowers, p, places);
         let found = super::bisection::bisect(
             d,
-            f,
+            e,
             entries,
             places,
             p + 1,
@@ -133,9 +133,8 @@ pub(crate) fn family_of(
 {
     let mut d = sturm::blank();
     let mut e = sturm::blank();
-    let mut f = sturm::blank();
-    sturm::fill(&mut d, &mut e, &mut f, m, parity, cs, entries);
+    sturm::fill(&mut d, &mut e, m, parity, cs, entries);
     let k = entries as usize;
     let bounds = sturm::gershgorin(&d, &e, k);
-    bisect_family(&d, &f, k, places, allowance, bounds)
+    bisect_family(&d, &e, k, places, allowance, bounds)
 }

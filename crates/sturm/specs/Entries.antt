@@ -29,10 +29,6 @@ entryG m k cs = dbl k ⊗ (dbl k ⊖ #1) ⊘ ((dbl (2 * (m + k)) ⊖ #3) ⊗ (db
 unfoldable pub entryE : ℕ → ℕ → Float → Float
 entryE m k cs = cond (ltb k 2) #0 (sqrt (entryA m (k - 2) cs ⊗ entryG m k cs))
 
--- e × e
-abbrev pub entryF : ℕ → ℕ → Float → Float
-entryF m k cs = entryE m k cs ⊗ entryE m k cs
-
 -- ---- a family's entries in arrays of 300
 
 unfoldable pub blankEntries : List Float
@@ -48,6 +44,3 @@ diagonal m parity cs entries = firstEntries (λ k. entryD m k cs) parity entries
 
 abbrev pub offDiagonal : ℕ → ℕ → Float → ℕ → List Float
 offDiagonal m parity cs entries = firstEntries (λ k. entryE m k cs) parity entries
-
-abbrev pub squares : ℕ → ℕ → Float → ℕ → List Float
-squares m parity cs entries = firstEntries (λ k. entryF m k cs) parity entries

@@ -1,7 +1,7 @@
 // Matrix entries of the modes of order m whose degree is m + k, k of one parity.
 ghost use mathlib.Core.Path.{_≡_};
 ghost use Prim.Native.Nat.{_+_, _<_, _≤_};
-ghost use Rattle.sturm.specs.Entries.{entryA, entryD, entryG, entryE, blankEntries, diagonal, offDiagonal, squares};
+ghost use Rattle.sturm.specs.Entries.{entryA, entryD, entryG, entryE, blankEntries, diagonal, offDiagonal};
 
 pub fn entry_a(m: u32, k: u32, cs: f64) -> f64
     requires { ⌜ m + k < 4096 ⌝ }
@@ -53,31 +53,19 @@ pub fn blank() -> Column
     [0.0; 300]
 }
 
-// The first `entries` diagonal entries, off-diagonal entries and their squares, into arrays that are
-// blank.
-pub fn fill(
-    d: &mut [f64; 300],
-    e: &mut [f64; 300],
-    f: &mut [f64; 300],
-    m: u32,
-    parity: u32,
-    cs: f64,
-    entries: u32,
-)
+// The first `entries` diagonal and off-diagonal entries, into arrays that are blank.
+pub fn fill(d: &mut [f64; 300], e: &mut [f64; 300], m: u32, parity: u32, cs: f64, entries: u32)
     requires { ⌜ (m < 1000) × (parity < 2) × (entries ≤ 300) ⌝ }
-    requires { ⌜ (now d ≡ blankEntries) × (now e ≡ blankEntries) × (now f ≡ blankEntries) ⌝ }
+    requires { ⌜ (now d ≡ blankEntries) × (now e ≡ blankEntries) ⌝ }
     ensures { λ _. ⌜ now (d .exit) ≡ diagonal m parity cs entries ⌝ }
     ensures { λ _. ⌜ now (e .exit) ≡ offDiagonal m parity cs entries ⌝ }
-    ensures { λ _. ⌜ now (f .exit) ≡ squares m parity cs entries ⌝ }
 {
     let mut i: u32 = 0;
     while i < entries {
         let at = i as usize;
         let k = 2 * i + parity;
-        let v = entry_e(m, k, cs);
         d[at] = entry_d(m, k, cs);
-        e[at] = v;
-        f[at] = v * v;
+        e[at] = entry_e(m, k, cs);
         i = i + 1;
     }
 }

@@ -70,7 +70,15 @@ fn divisor(s: f64) -> f64
     s
 }
 
-// The pivot at the entry d with f beside it. s is the pivot before it, or its substitute.
+// The square of a root beside the diagonal. It is formed where it is used: there is no array of them.
+fn square(root: f64) -> f64
+    ensures { λ r. ⌜ r ≡ Pivots.square root ⌝ }
+{
+    root * root
+}
+
+// The pivot at the entry d with a root beside it whose square is f. s is the pivot before it, or its
+// substitute.
 fn pivot(d: f64, f: f64, s: f64, shift: f64) -> f64
     ensures { λ r. ⌜ r ≡ Pivots.pivot d f s shift ⌝ }
 {
@@ -127,7 +135,7 @@ impl Seven {
         }
     }
 
-    // The pivots after these divisors, at the entry d with f beside it.
+    // The pivots after these divisors, at the entry d with a root beside it whose square is f.
     fn next(self, d: f64, f: f64, shifts: Seven) -> Seven
         ensures { λ r. ⌜ r ≡ nextPivots d f shifts self ⌝ }
     {
@@ -211,42 +219,42 @@ impl Counts {
 }
 
 // Whether 1e-30 is put in during the count at a shift.
-fn substitutes(d: &[f64; 300], f: &[f64; 300], entries: usize, shift: f64) -> bool
+fn substitutes(d: &[f64; 300], e: &[f64; 300], entries: usize, shift: f64) -> bool
     requires { ⌜ entries ≤ 300 ⌝ }
-    ensures { λ r. ⌜ r ≡ negativePivots (now (d .entry)) (now (f .entry)) entries shift .substituted ⌝ }
+    ensures { λ r. ⌜ r ≡ negativePivots (now (d .entry)) (now (e .entry)) entries shift .substituted ⌝ }
 {
     let mut s = 1.0;
     let mut substituted = false;
     let mut i: usize = 0;
     while i < entries {
         substituted = (s == 0.0) | substituted;
-        s = pivot(d[i], f[i], divisor(s), shift);
+        s = pivot(d[i], square(e[i]), divisor(s), shift);
         i = i + 1;
     }
     substituted
 }
 
 // At each of seven shifts.
-fn substitutes_at(d: &[f64; 300], f: &[f64; 300], entries: usize, shifts: Seven) -> Flags
+fn substitutes_at(d: &[f64; 300], e: &[f64; 300], entries: usize, shifts: Seven) -> Flags
     requires { ⌜ entries ≤ 300 ⌝ }
-    ensures { λ r. ⌜ r ≡ countsAt (negativePivots (now (d .entry)) (now (f .entry)) entries) shifts .substituted ⌝ }
+    ensures { λ r. ⌜ r ≡ countsAt (negativePivots (now (d .entry)) (now (e .entry)) entries) shifts .substituted ⌝ }
 {
     Flags {
-        x: substitutes(d, f, entries, shifts.x),
-        l: substitutes(d, f, entries, shifts.l),
-        h: substitutes(d, f, entries, shifts.h),
-        ll: substitutes(d, f, entries, shifts.ll),
-        lh: substitutes(d, f, entries, shifts.lh),
-        hl: substitutes(d, f, entries, shifts.hl),
-        hh: substitutes(d, f, entries, shifts.hh),
+        x: substitutes(d, e, entries, shifts.x),
+        l: substitutes(d, e, entries, shifts.l),
+        h: substitutes(d, e, entries, shifts.h),
+        ll: substitutes(d, e, entries, shifts.ll),
+        lh: substitutes(d, e, entries, shifts.lh),
+        hl: substitutes(d, e, entries, shifts.hl),
+        hh: substitutes(d, e, entries, shifts.hh),
     }
 }
 
 // The count over the first `entries` entries, at each shift. A zero pivot is rare, so the loop only
 // tells whether there was one at any shift; where there was, each shift is asked for its own.
-pub fn negative_pivots(d: &[f64; 300], f: &[f64; 300], entries: usize, shifts: Seven) -> Counts
+pub fn negative_pivots(d: &[f64; 300], e: &[f64; 300], entries: usize, shifts: Seven) -> Counts
     requires { ⌜ entries ≤ 300 ⌝ }
-    ensures { λ r. ⌜ r ≡ countsAt (negativePivots (now (d .entry)) (now (f .entry)) entries) shifts ⌝ }
+    ensures { λ r. ⌜ r ≡ countsAt (negativePivots (now (d .entry)) (now (e .entry)) entries) shifts ⌝ }
 {
     let mut s = Seven {
         x: 1.0,
@@ -266,14 +274,15 @@ pub fn negative_pivots(d: &[f64; 300], f: &[f64; 300], entries: usize, shifts: S
             zero_met = true;
             s = s.divisors();
         }
-        s = s.next(d[i], f[i], shifts);
+        // One square for all seven shifts.
+        s = s.next(d[i], square(e[i]), shifts);
         negative = negative.counted(s);
         i = i + 1;
     }
     if zero_met {
         return Counts {
             negative,
-            substituted: substitutes_at(d, f, entries, shifts),
+            substituted: substitutes_at(d, e, entries, shifts),
         };
     }
     Counts {

@@ -31,7 +31,7 @@ noFlags = record { x = false; l = false; h = false; ll = false; lh = false; hl =
 abbrev pub noCounts : Counts
 noCounts = record { negative = noNumbers; substituted = noFlags }
 
--- at an entry d with f beside it, by these divisors
+-- at an entry d with a root beside it whose square is f, by these divisors
 abbrev pub nextPivots : Float → Float → Seven → Seven → Seven
 nextPivots d f shifts s = record { x = pivot d f (s .x) (shifts .x); l = pivot d f (s .l) (shifts .l); h = pivot d f (s .h) (shifts .h); ll = pivot d f (s .ll) (shifts .ll); lh = pivot d f (s .lh) (shifts .lh); hl = pivot d f (s .hl) (shifts .hl); hh = pivot d f (s .hh) (shifts .hh) }
 

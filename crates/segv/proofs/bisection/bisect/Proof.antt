@@ -13,13 +13,13 @@ use Rattle.segv.proofs.bisection.bisect.Statement.{statement}
 use Rattle.segv.proofs.bisection.bisect.Tie as tie
 
 abbrev Inv-loop : tie.InvT-loop
-Inv-loop d f entries places place allowance uppers₀ lowers₀ r₀ left₀ counts₀ known₀ uppers lowers r left counts known =
+Inv-loop d e entries places place allowance uppers₀ lowers₀ r₀ left₀ counts₀ known₀ uppers lowers r left counts known =
     (r .steps + left ≡ allowance)
-    × (bisection d f entries places place left r (ends uppers lowers) ≡ bisection d f entries places place allowance r₀ (ends uppers₀ lowers₀))
-    × Known (negativePivots d f entries) known (r .lower) (r .upper) counts
+    × (bisection d e entries places place left r (ends uppers lowers) ≡ bisection d e entries places place allowance r₀ (ends uppers₀ lowers₀))
+    × Known (negativePivots d e entries) known (r .lower) (r .upper) counts
 
 abbrev μ-loop : tie.MeasureT-loop
-μ-loop d f entries places place allowance uppers₀ lowers₀ r₀ left₀ counts₀ known₀ uppers lowers r left counts known = left
+μ-loop d e entries places place allowance uppers₀ lowers₀ r₀ left₀ counts₀ known₀ uppers lowers r left counts known = left
 
 none-requires : tie.Need-none-requires Inv-loop μ-loop
 none-requires c κs = search needs
@@ -49,7 +49,7 @@ counts-ahead-requires c κs = search needs
 -- after the test of `known` the count of this step is known
 recounted : (c : tie.Joined2 Inv-loop μ-loop)
     → let l = c .before .before .before .before .before .loop in let a = c .before .before .before .before .before .before .before .args in
-    (0 < c .if2 .known) × Known (negativePivots (a .d .now) (a .f .now) (a .entries)) (c .if2 .known) (l .r .lower) (l .r .upper) (c .if2 .counts)
+    (0 < c .if2 .known) × Known (negativePivots (a .d .now) (a .e .now) (a .entries)) (c .if2 .known) (l .r .lower) (l .r .upper) (c .if2 .counts)
 recounted c =
     let l = c .before .before .before .before .before .loop in
     let h = c .before .before .before .with-midpoint in

@@ -10,11 +10,11 @@ use Rattle.segv.proofs.families.bisect_family.Statement.{statement}
 use Rattle.segv.proofs.families.bisect_family.Tie as tie
 
 abbrev Inv-loop : tie.InvT-loop
-Inv-loop d f entries places allowance uppers₀ lowers₀ out₀ p₀ uppers lowers out p =
-    familyFrom d f entries places allowance (places - p) p (ends uppers lowers) out ≡ familyFrom d f entries places allowance (places - p₀) p₀ (ends uppers₀ lowers₀) out₀
+Inv-loop d e entries places allowance uppers₀ lowers₀ out₀ p₀ uppers lowers out p =
+    familyFrom d e entries places allowance (places - p) p (ends uppers lowers) out ≡ familyFrom d e entries places allowance (places - p₀) p₀ (ends uppers₀ lowers₀) out₀
 
 abbrev μ-loop : tie.MeasureT-loop
-μ-loop d f entries places allowance uppers₀ lowers₀ out₀ p₀ uppers lowers out p = places - p
+μ-loop d e entries places allowance uppers₀ lowers₀ out₀ p₀ uppers lowers out p = places - p
 
 hundred-requires : tie.Need-hundred-requires Inv-loop μ-loop
 hundred-requires c κs = search needs

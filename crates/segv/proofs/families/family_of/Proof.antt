@@ -10,9 +10,6 @@ blank-requires c κs = search needs
 blank-requires-2 : tie.Need-blank-requires-2
 blank-requires-2 c κs = search needs
 
-blank-requires-3 : tie.Need-blank-requires-3
-blank-requires-3 c κs = search needs
-
 fill-requires : tie.Need-fill-requires
 fill-requires c κs = search needs
 
@@ -25,7 +22,7 @@ bisect-family-requires c κs = search needs
 returns : tie.Need-returns
 returns c =
     let fill = c .before .before .before .before .before .before .fill in
-    laws.family-is _ _ _ _ _ _ _ _ _ _ _ (c .bisect-family .ensures) (c .before .before .before .gershgorin .ensures) (fill .ensures .0) (fill .ensures .1 .0) (fill .ensures .1 .1)
+    laws.family-is _ _ _ _ _ _ _ _ _ _ (c .bisect-family .ensures) (c .before .before .before .gershgorin .ensures) (fill .ensures .0) (fill .ensures .1)
 
 pub family-of-spec : {M : Type 1} → statement M
 family-of-spec =
@@ -33,7 +30,6 @@ family-of-spec =
     (tie.spec
     blank-requires
     blank-requires-2
-    blank-requires-3
     fill-requires
     gershgorin-requires
     bisect-family-requires

@@ -3,24 +3,23 @@ use Prim.Native.Nat.{_≤_, _-_}
 use mathlib.Core.Path.{_≡_}
 use native.Mathlib.Omega.{arith}
 use native.Mathlib.Numerals.{add-one}
-use Rattle.sturm.specs.Entries.{firstEntries, entryD, entryE, entryF}
+use Rattle.sturm.specs.Entries.{firstEntries, entryD, entryE}
 use borrow.Author.Needs.{needs}
 use Rattle.sturm.proofs.entries.fill.Statement.{statement}
 use Rattle.sturm.proofs.entries.fill.Tie as tie
 
 abbrev Inv-loop : tie.InvT-loop
-Inv-loop d₀ e₀ f₀ m parity cs entries i₀ d e f i =
+Inv-loop d₀ e₀ m parity cs entries i₀ d e i =
     (i ≤ entries)
     × (d ≡ firstEntries (λ k. entryD m k cs) parity i)
     × (e ≡ firstEntries (λ k. entryE m k cs) parity i)
-    × (f ≡ firstEntries (λ k. entryF m k cs) parity i)
 
 abbrev μ-loop : tie.MeasureT-loop
-μ-loop d₀ e₀ f₀ m parity cs entries i₀ d e f i = entries - i
+μ-loop d₀ e₀ m parity cs entries i₀ d e i = entries - i
 
 loop-holds : tie.Need-loop-holds Inv-loop μ-loop
 unfolding firstEntries
-loop-holds c = (omega arith, c .pre .1 .0, c .pre .1 .1, c .pre .1 .2)
+loop-holds c = (omega arith, c .pre .1 .0, c .pre .1 .1)
 
 cast-at : tie.Need-cast-at Inv-loop μ-loop
 cast-at c = search needs
@@ -31,9 +30,6 @@ mul-k c = search needs
 add-k : tie.Need-add-k Inv-loop μ-loop
 add-k c = search needs
 
-entry-e-requires : tie.Need-entry-e-requires Inv-loop μ-loop
-entry-e-requires c κs = search needs
-
 entry-d-requires : tie.Need-entry-d-requires Inv-loop μ-loop
 entry-d-requires c κs = search needs
 
@@ -43,17 +39,14 @@ mul-d c = search needs
 element-write-d : tie.Need-element-write-d Inv-loop μ-loop
 element-write-d c = search needs
 
+entry-e-requires : tie.Need-entry-e-requires Inv-loop μ-loop
+entry-e-requires c κs = search needs
+
 mul-e : tie.Need-mul-e Inv-loop μ-loop
 mul-e c = search needs
 
 element-write-e : tie.Need-element-write-e Inv-loop μ-loop
 element-write-e c = search needs
-
-mul-f : tie.Need-mul-f Inv-loop μ-loop
-mul-f c = search needs
-
-element-write-f : tie.Need-element-write-f Inv-loop μ-loop
-element-write-f c = search needs
 
 add-i : tie.Need-add-i Inv-loop μ-loop
 add-i c = search needs
@@ -63,10 +56,10 @@ loop-less c = search needs
 
 loop-again : tie.Need-loop-again Inv-loop μ-loop
 unfolding firstEntries
-loop-again c = let l = c .before .before .before .loop in (omega arith, rw (add-one, l .inv .1, c .entry-d .ensures), rw (add-one, l .inv .2, c .before .entry-e .ensures), rw (add-one, l .inv .3, c .before .entry-e .ensures))
+loop-again c = let l = c .before .before .before .loop in (omega arith, rw (add-one, l .inv .1, c .before .entry-d .ensures), rw (add-one, l .inv .2, c .entry-e .ensures))
 
 returns : tie.Need-returns Inv-loop μ-loop
-returns c = let h : c .before .loop .i ≡ c .before .before .args .entries = omega arith in (rw (← h) (c .before .loop .inv .1), (rw (← h) (c .before .loop .inv .2), rw (← h) (c .before .loop .inv .3)))
+returns c = let h : c .before .loop .i ≡ c .before .before .args .entries = omega arith in (rw (← h) (c .before .loop .inv .1), rw (← h) (c .before .loop .inv .2))
 
 pub fill-spec : {M : Type 1} → statement M
 fill-spec =
@@ -78,14 +71,12 @@ fill-spec =
     cast-at
     mul-k
     add-k
-    entry-e-requires
     entry-d-requires
     mul-d
     element-write-d
+    entry-e-requires
     mul-e
     element-write-e
-    mul-f
-    element-write-f
     add-i
     loop-less
     loop-again

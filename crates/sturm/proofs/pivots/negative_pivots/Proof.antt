@@ -13,10 +13,10 @@ use Rattle.sturm.proofs.pivots.negative_pivots.Statement.{statement}
 use Rattle.sturm.proofs.pivots.negative_pivots.Tie as tie
 
 abbrev Inv-loop : tie.InvT-loop
-Inv-loop d f entries shifts s₀ negative₀ zero-met₀ i₀ s negative zero-met i = (i ≤ entries) × Chains d f shifts i s negative zero-met
+Inv-loop d e entries shifts s₀ negative₀ zero-met₀ i₀ s negative zero-met i = (i ≤ entries) × Chains d e shifts i s negative zero-met
 
 abbrev μ-loop : tie.MeasureT-loop
-μ-loop d f entries shifts s₀ negative₀ zero-met₀ i₀ s negative zero-met i = entries - i
+μ-loop d e entries shifts s₀ negative₀ zero-met₀ i₀ s negative zero-met i = entries - i
 
 no-numbers-requires : tie.Need-no-numbers-requires Inv-loop μ-loop
 no-numbers-requires c κs = search needs
@@ -44,17 +44,20 @@ mul-next c = search needs
 element-copy-out-next : tie.Need-element-copy-out-next Inv-loop μ-loop
 element-copy-out-next c = search needs
 
-mul-next-2 : tie.Need-mul-next-2 Inv-loop μ-loop
-mul-next-2 c = search needs
+mul-square : tie.Need-mul-square Inv-loop μ-loop
+mul-square c = search needs
 
-element-copy-out-next-2 : tie.Need-element-copy-out-next-2 Inv-loop μ-loop
-element-copy-out-next-2 c = search needs
+element-copy-out-square : tie.Need-element-copy-out-square Inv-loop μ-loop
+element-copy-out-square c = search needs
+
+square-requires : tie.Need-square-requires Inv-loop μ-loop
+square-requires c κs = search needs
 
 next-requires : tie.Need-next-requires Inv-loop μ-loop
 next-requires c κs = search needs
 
 counted-requires : tie.Need-counted-requires Inv-loop μ-loop
-counted-requires c κs = let l = c .before .before .before .before .before .before .loop in chains-few _ _ _ _ _ _ _ (l .inv .1) (omega arith)
+counted-requires c κs = let l = c .before .before .before .before .before .before .before .loop in chains-few _ _ _ _ _ _ _ (l .inv .1) (omega arith)
 
 add-i : tie.Need-add-i Inv-loop μ-loop
 add-i c = search needs
@@ -64,10 +67,10 @@ loop-less c = search needs
 
 loop-again : tie.Need-loop-again Inv-loop μ-loop
 loop-again c =
-    let j = c .before .before .before .before in
+    let j = c .before .before .before .before .before in
     let l = j .before .before .before .loop in
     let e = divided j in
-    (omega arith, chains-on _ _ _ _ _ _ _ (l .inv .1) _ _ _ _ (e .0) (e .1) (c .before .next .ensures) (c .counted .ensures))
+    (omega arith, chains-on _ _ _ _ _ _ _ (l .inv .1) _ _ _ _ (e .0) (e .1) (rw (← (c .before .before .square .ensures)) (c .before .next .ensures)) (c .counted .ensures))
 
 substitutes-at-requires : tie.Need-substitutes-at-requires Inv-loop μ-loop
 substitutes-at-requires c κs = search needs
@@ -99,8 +102,9 @@ negative-pivots-spec =
     divisors-requires
     mul-next
     element-copy-out-next
-    mul-next-2
-    element-copy-out-next-2
+    mul-square
+    element-copy-out-square
+    square-requires
     next-requires
     counted-requires
     add-i

@@ -9,10 +9,10 @@ use Rattle.sturm.proofs.pivots.substitutes.Statement.{statement}
 use Rattle.sturm.proofs.pivots.substitutes.Tie as tie
 
 abbrev Inv-loop : tie.InvT-loop
-Inv-loop d f entries shift s₀ substituted₀ i₀ s substituted i = (i ≤ entries) × (s ≡ pivotsAt d f shift i .last) × (substituted ≡ pivotsAt d f shift i .count .substituted)
+Inv-loop d e entries shift s₀ substituted₀ i₀ s substituted i = (i ≤ entries) × (s ≡ pivotsAt d e shift i .last) × (substituted ≡ pivotsAt d e shift i .count .substituted)
 
 abbrev μ-loop : tie.MeasureT-loop
-μ-loop d f entries shift s₀ substituted₀ i₀ s substituted i = entries - i
+μ-loop d e entries shift s₀ substituted₀ i₀ s substituted i = entries - i
 
 loop-holds : tie.Need-loop-holds Inv-loop μ-loop
 unfolding pivotsAt
@@ -24,11 +24,14 @@ mul-pivot c = search needs
 element-copy-out-pivot : tie.Need-element-copy-out-pivot Inv-loop μ-loop
 element-copy-out-pivot c = search needs
 
-mul-pivot-2 : tie.Need-mul-pivot-2 Inv-loop μ-loop
-mul-pivot-2 c = search needs
+mul-square : tie.Need-mul-square Inv-loop μ-loop
+mul-square c = search needs
 
-element-copy-out-pivot-2 : tie.Need-element-copy-out-pivot-2 Inv-loop μ-loop
-element-copy-out-pivot-2 c = search needs
+element-copy-out-square : tie.Need-element-copy-out-square Inv-loop μ-loop
+element-copy-out-square c = search needs
+
+square-requires : tie.Need-square-requires Inv-loop μ-loop
+square-requires c κs = search needs
 
 divisor-requires : tie.Need-divisor-requires Inv-loop μ-loop
 divisor-requires c κs = search needs
@@ -45,8 +48,8 @@ loop-less c = search needs
 loop-again : tie.Need-loop-again Inv-loop μ-loop
 unfolding pivotsAt nextPivot
 loop-again c =
-    let l = c .before .before .before .before .before .loop in
-    (omega arith, rw (add-one (l .i), ← (l .inv .1), ← (c .before .divisor .ensures)) (c .pivot .ensures), rw (add-one (l .i), ← (l .inv .1), ← (l .inv .2)))
+    let l = c .before .before .before .before .before .before .loop in
+    (omega arith, rw (add-one (l .i), ← (l .inv .1), ← (c .before .before .square .ensures), ← (c .before .divisor .ensures)) (c .pivot .ensures), rw (add-one (l .i), ← (l .inv .1), ← (l .inv .2)))
 
 returns : tie.Need-returns Inv-loop μ-loop
 unfolding negativePivots
@@ -64,8 +67,9 @@ substitutes-spec =
     loop-holds
     mul-pivot
     element-copy-out-pivot
-    mul-pivot-2
-    element-copy-out-pivot-2
+    mul-square
+    element-copy-out-square
+    square-requires
     divisor-requires
     pivot-requires
     add-i
