@@ -51,6 +51,11 @@ impl Measured {
         self.ours / self.rust
     }
 
+    /// Of the rounds.
+    pub fn median(&self) -> f64 {
+        self.quarter(2)
+    }
+
     fn quarter(&self, quarter: usize) -> f64 {
         self.ratios[(self.ratios.len() - 1) * quarter / 4]
     }
@@ -58,7 +63,7 @@ impl Measured {
     /// How many times as fast ours surely is: by the best times and by the median of the rounds. On
     /// a busy machine the longer side is interrupted more often, which the best times do not show.
     pub fn factor(&self) -> f64 {
-        1.0 / self.ratio().max(self.quarter(2))
+        1.0 / self.ratio().max(self.median())
     }
 
     /// How many times as fast ours is by the median of the rounds, with their quarters as spread.

@@ -43,8 +43,8 @@
  * is the length of a row, (size_t)(n - m) + 1. The constants below need no cast.
  *
  * The functions keep no state, allocate nothing, touch no errno and may run in any number of threads
- * at once. Measured, they use up to 37 KB of stack in rows, 12 KB in radial functions and 6 KB in the
- * others.
+ * at once. Measured on x86-64, they use up to 29,400 bytes of stack in rows, 34,700 in DLMF rows,
+ * 12,400 in radial functions and 5,200 in the others.
  */
 #ifndef SPHEROIDAL_H
 #define SPHEROIDAL_H
@@ -54,12 +54,12 @@
 
 /*
  * The version. MAJOR moves where a correct program may have to change or gets other answers, MINOR
- * where something is added, PATCH where neither: speed, comments, how it is built.
+ * where something is added, PATCH where neither: speed, memory, comments, how it is built.
  */
 #define SPHEROIDAL_VERSION_MAJOR 3
 #define SPHEROIDAL_VERSION_MINOR 0
-#define SPHEROIDAL_VERSION_PATCH 0
-#define SPHEROIDAL_VERSION "3.0.0"
+#define SPHEROIDAL_VERSION_PATCH 1
+#define SPHEROIDAL_VERSION "3.0.1"
 
 /*
  * What a function answers. 1 to 3 are refusals of the record program and never come from here. Let

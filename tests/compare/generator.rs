@@ -163,6 +163,11 @@ const ALL: Mix = Mix {
     spoiled_percent: 12,
 };
 
+const ROWS: Mix = Mix {
+    operations: &[(3, 1), (3, 2), (1, 6), (1, 7)],
+    ..ALL
+};
+
 /// Rows whose counts often meet a zero pivot, as hardly any others do. None is spoiled, since that
 /// would take most of those out of this range.
 const SMALL_C: Mix = Mix {
@@ -194,6 +199,10 @@ impl Generator {
 
     pub fn with_sizes(seed: u64, sizes: Sizes) -> Generator {
         Generator::of_mix(seed, Mix { sizes, ..ALL })
+    }
+
+    pub fn of_rows(seed: u64) -> Generator {
+        Generator::of_mix(seed, ROWS)
     }
 
     pub fn with_small_c(seed: u64) -> Generator {

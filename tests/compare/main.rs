@@ -24,7 +24,7 @@ use landed::{CLASSES, DAMAGED_STREAMS, any_landed, class_of, has_landed, landed_
 use program::Program;
 use tally::Tally;
 
-const USAGE: &str = "usage: compare [--records] [N] [SEED] [small-c | first-kind] | \
+const USAGE: &str = "usage: compare [--records] [N] [SEED] [rows | small-c | first-kind] | \
     compare --replay [N] [SEED]";
 const KNOWN_RECORDS: &str = "tests/oracle/traps.txt";
 /// Where the gate finds what it replays: one long stream, and many short ones.
@@ -52,6 +52,8 @@ struct Arguments {
 #[derive(Clone, Copy, PartialEq, Eq)]
 enum Fresh {
     All,
+    /// Rows alone, DLMF rows among them.
+    Rows,
     /// Rows with small c alone.
     SmallC,
     /// Operation 8 alone.
@@ -89,6 +91,7 @@ fn arguments() -> Result<Arguments, String> {
         words.remove(0);
     }
     let fresh = match words.last().map(String::as_str) {
+        Some("rows") => Fresh::Rows,
         Some("small-c") => Fresh::SmallC,
         Some("first-kind") => Fresh::FirstKind,
         _ => Fresh::All,
@@ -114,6 +117,7 @@ fn arguments() -> Result<Arguments, String> {
 fn run(arguments: Arguments) -> Result<ExitCode, String> {
     let mut generator = match arguments.fresh {
         Fresh::All => Generator::new(arguments.seed),
+        Fresh::Rows => Generator::of_rows(arguments.seed),
         Fresh::SmallC => Generator::with_small_c(arguments.seed),
         Fresh::FirstKind => Generator::of_first_kind(arguments.seed),
     };
@@ -298,6 +302,7 @@ impl Run {
         let Arguments { records, seed, .. } = arguments;
         let what = match arguments.fresh {
             Fresh::All => "fresh records",
+            Fresh::Rows => "fresh records of operations 1, 2, 6 and 7",
             Fresh::SmallC => "fresh rows with small c",
             Fresh::FirstKind => "fresh records of operation 8",
         };

@@ -11,7 +11,7 @@ use lib.Ieee.{nan, lt}
 use lib.ListN.{length, getD, set, length-set, length-replicate}
 use lib.Seq.{getD-set-same, getD-set-other}
 use Rattle.arith.specs.Double.{_⊗_, #0, #1e-10}
-use Rattle.arith.proofs.Flags.{not-left}
+use Rattle.arith.proofs.Flags.{not-left, neither}
 use Rattle.segv.specs.declared.bisection.Bracket.{Bracket}
 use Rattle.segv.specs.Families.{Families, bothFamilies, eitherStopped}
 use Rattle.segv.specs.Row.{Slices, flag, written, writtenRow, answer, modeAt, segvRow}
@@ -20,7 +20,7 @@ use Rattle.modes.specs.declared.checking.Kind.{Kind}
 use Rattle.modes.specs.Refusals.{rowRefusal, signOf, entriesOf}
 use Rattle.modes.specs.Rows.{rowOf, rowIn, tooShort, zeroAt, blankSlices}
 use Rattle.demands.specs.Demand3.{handed}
-use Rattle.modes.proofs.Laws.{Accepted, accepted, neither, long-enough}
+use Rattle.modes.proofs.Laws.{Accepted, accepted, long-enough}
 
 -- ---- what is written
 module _ {A : Type 0} (field : Bracket → A) (bracket : ℕ → Bracket) (xs : List A) (d : A) where

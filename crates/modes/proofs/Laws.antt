@@ -14,7 +14,7 @@ use lib.Seq.{take-all, take-suc, take-suc-set, drop-drop, drop-set-lt}
 use Rattle.arith.specs.Double.{_⊘_, _⊗_, at, #0, #1, #1e-10}
 use Rattle.arith.specs.Choice.{abs}
 use Rattle.arith.specs.Truncation.{wholePart}
-use Rattle.arith.proofs.Flags.{not-left}
+use Rattle.arith.proofs.Flags.{not-left, neither}
 use Rattle.arith.proofs.Laws.{whole-below}
 use Rattle.expansion.specs.Terms.{hOf, termsOf, Usable, #175}
 use Rattle.expansion.specs.Sdmn.{sdmn}
@@ -94,10 +94,6 @@ pub record Accepted (x : Mode) : Type 0 where
   pub parameter : noParameter (x .c) ≡ false
   pub some : 10 ≤ entriesOf x
   pub few : entriesOf x ≤ 300
-
-pub neither : (a b : Bool) → (a || b) ≡ false → (a ≡ false) × (b ≡ false)
-neither true b h = not-left h
-neither false b h = (refl, h)
 
 none-applies : (a b c : Bool) → _≡_ {A = ℕ} (cond a 4 (cond b 5 (cond c 0 6))) 0 → (a ≡ false) × (b ≡ false) × (c ≡ true)
 none-applies true b c h = absurd (omega arith)

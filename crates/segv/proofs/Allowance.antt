@@ -6,7 +6,7 @@ use mathlib.Core.List.{List}
 use native.Mathlib.Omega.{arith}
 use lib.Ieee.{Float}
 use lib.ListN.{set}
-use Rattle.arith.proofs.Flags.{not-left}
+use Rattle.arith.proofs.Flags.{not-left, neither}
 use Rattle.sturm.specs.Pivots.{negativePivots}
 use Rattle.segv.specs.declared.bisection.Bracket.{Bracket}
 use Rattle.segv.specs.declared.bisection.Search.{Search}
@@ -15,7 +15,6 @@ use Rattle.segv.specs.declared.families.Family.{Family}
 use Rattle.segv.specs.Bisection.{Ends, Outcome, bisection, withMidpoint, converged, tighten, tightenOthers}
 use Rattle.segv.specs.Inside.Arrays.{ends}
 use Rattle.segv.specs.Families.{openedAt, onSearch, familyFrom, bisectedFamily, familyOf, bothFamilies, eitherStopped}
-use Rattle.segv.proofs.Sound.{neither}
 
 -- something was found
 abbrev Found : Search → Type 0

@@ -14,7 +14,7 @@ use lib.Seq.{getD-set-same, getD-set-other}
 use lib.Ieee as Ieee
 use lib.Ieee.{Float, nan}
 use Rattle.sturm.specs.declared.gershgorin_bounds.Bounds.{Bounds}
-use Rattle.arith.proofs.Flags.{not-left}
+use Rattle.arith.proofs.Flags.{not-left, neither}
 use Rattle.sturm.specs.declared.pivots.Count.{Count}
 use Rattle.sturm.specs.Pivots.{negativePivots}
 use Rattle.arith.specs.Double.{at}
@@ -242,10 +242,6 @@ unfolding familyOf
 family-sound m parity cs entries places allowance hp hl h q hq = all-sound _ _ entries _ allowance places hp hl h q hq
 
 -- ---- the row
-
-pub neither : (a b : Bool) → (a || b) ≡ false → (a ≡ false) × (b ≡ false)
-neither true b h = not-left h
-neither false b h = (refl, h)
 
 -- Demand 3: each bracket of an accepted row is sound for its place among the families of its parity.
 pub row-sound : (m n : ℕ) (cs : Float) (entries allowance : ℕ) → n < m + 200 → eitherStopped (bothFamilies m n cs entries allowance) ≡ false

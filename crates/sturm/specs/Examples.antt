@@ -1,12 +1,12 @@
--- Counts of small matrices, as a table with one theorem over it. No row is known whose count ends on a zero pivot, so that only this table shows what such a count says.
+-- Counts of small matrices, as a table with one theorem over it, and of one family's matrix. No row is known whose count ends on a zero pivot, so that only this table shows what such a count says.
 use mathlib.Core.Path.{_≡_, refl}
 use mathlib.Core.Bool.{true, false}
 use mathlib.Core.List.{List, [], _∷_, map}
 use lib.Ieee.{Float, add, sub, mul, div, lt, eq, ofBits, ofInt}
 use lib.ListN.{length}
 use Rattle.arith.specs.Double.{bits, #0, #1, #2, #3}
-use Rattle.sturm.specs.declared.pivots.Count.{Count}
 use Rattle.arith.specs.Root.{sqrt}
+use Rattle.sturm.specs.declared.pivots.Count.{Count}
 use Rattle.sturm.specs.Entries.{diagonal, offDiagonal, firstEntries, blankEntries, entryE}
 use Rattle.sturm.specs.Pivots.{count, divisor, nextPivot, pivotsAt, negativePivots}
 

@@ -96,29 +96,18 @@ fn counted(negative: usize, s: f64) -> usize
 }
 
 impl Seven {
-    // False only where no pivot is zero, so that none has to be substituted.
+    // False only where no pivot is zero, so that none has to be substituted. All seven are compared
+    // before the caller's one branch.
     fn any_zero(self) -> bool
         ensures { λ r. ⌜ (r ≡ false → NoZero self) ⌝ }
     {
-        if self.x == 0.0 {
-            return true;
-        }
-        if self.l == 0.0 {
-            return true;
-        }
-        if self.h == 0.0 {
-            return true;
-        }
-        if self.ll == 0.0 {
-            return true;
-        }
-        if self.lh == 0.0 {
-            return true;
-        }
-        if self.hl == 0.0 {
-            return true;
-        }
-        self.hh == 0.0
+        (self.x == 0.0)
+            | (self.l == 0.0)
+            | (self.h == 0.0)
+            | (self.ll == 0.0)
+            | (self.lh == 0.0)
+            | (self.hl == 0.0)
+            | (self.hh == 0.0)
     }
 
     fn divisors(self) -> Seven

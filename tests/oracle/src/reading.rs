@@ -179,7 +179,6 @@ enum Parity {
 struct Entry {
     d: f64,
     e: f64,
-    f: f64,
 }
 
 /// The K entries of one parity.
@@ -195,7 +194,7 @@ fn entries(kind: Kind, parity: Parity, m: u16, n: u16, c: f64) -> Vec<Entry> {
         };
         let (a, d, g) = matrix_terms(i64::from(m), k, cs);
         let e = a_before.map_or(0.0, |before: f64| (before * g).sqrt());
-        entries.push(Entry { d, e, f: e * e });
+        entries.push(Entry { d, e });
         a_before = Some(a);
     }
     entries
@@ -260,7 +259,8 @@ fn count_pivots(entries: &[Entry], shift: f64) -> PivotCount {
             s = PIVOT_SUBSTITUTE;
             count.substituted = true;
         }
-        s = (entry.d - entry.f / s) - shift;
+        let f = entry.e * entry.e;
+        s = (entry.d - f / s) - shift;
         if s < 0.0 {
             count.negative += 1;
         }

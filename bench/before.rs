@@ -1,0 +1,189 @@
+//! Times the rows of two builds of the library side by side: another checkout's, which is called
+//! before, and this one's, after. Both are shared libraries, loaded into one process; their answers
+//! are held against each other bit for bit.
+
+#[allow(dead_code)]
+mod measure;
+
+use std::ffi::{CStr, CString, c_char, c_int, c_void};
+use std::hint::black_box;
+
+use measure::{Measured, ROUNDS, seconds, time};
+
+/// How long a round of one side takes, about, where one call does not take longer.
+const ROUND: f64 = 0.01;
+const PLACES: usize = 200;
+const ALLOWANCE: u16 = u16::MAX;
+const RTLD_NOW: c_int = 2;
+
+unsafe extern "C" {
+    fn dlopen(file: *const c_char, flags: c_int) -> *mut c_void;
+    fn dlsym(library: *mut c_void, symbol: *const c_char) -> *mut c_void;
+}
+
+type RowFunction = unsafe extern "C" fn(
+    m: u16,
+    n: u16,
+    c: f64,
+    allowance: u16,
+    values: *mut f64,
+    values_length: usize,
+    steps: *mut u16,
+    steps_length: usize,
+    lowers: *mut f64,
+    lowers_length: usize,
+    uppers: *mut f64,
+    uppers_length: usize,
+    substituted: *mut u8,
+    substituted_length: usize,
+) -> u8;
+
+struct Library {
+    prolate: RowFunction,
+    oblate: RowFunction,
+}
+
+fn found(pointer: *mut c_void, what: &str) -> *mut c_void {
+    assert!(!pointer.is_null(), "{what} was not found");
+    pointer
+}
+
+fn load(path: &str) -> Library {
+    let file = CString::new(path).expect("a path");
+    let library = found(unsafe { dlopen(file.as_ptr(), RTLD_NOW) }, path);
+    let function = |symbol: &CStr| -> RowFunction {
+        let pointer = unsafe { dlsym(library, symbol.as_ptr()) };
+        unsafe { std::mem::transmute(found(pointer, &symbol.to_string_lossy())) }
+    };
+    Library {
+        prolate: function(c"spheroidal_prolate_row"),
+        oblate: function(c"spheroidal_oblate_row"),
+    }
+}
+
+/// A row's answer; past n − m every place is zero.
+#[derive(PartialEq)]
+struct Row {
+    values: [u64; PLACES],
+    lowers: [u64; PLACES],
+    uppers: [u64; PLACES],
+    steps: [u16; PLACES],
+    substituted: [u8; PLACES],
+}
+
+#[derive(Clone, Copy, Debug)]
+enum Kind {
+    Prolate,
+    Oblate,
+}
+use Kind::{Oblate, Prolate};
+
+struct Mode {
+    kind: Kind,
+    m: u16,
+    n: u16,
+    c: f64,
+}
+
+const fn mode(kind: Kind, m: u16, n: u16, c: f64) -> Mode {
+    Mode { kind, m, n, c }
+}
+
+/// The rows of `modes.rs`, the other kind of the small ones, and small c, where pivots are replaced.
+const ROWS: [Mode; 10] = [
+    mode(Prolate, 0, 0, 1.0),
+    mode(Oblate, 0, 0, 1.0),
+    mode(Prolate, 0, 5, 5.0),
+    mode(Oblate, 0, 5, 5.0),
+    mode(Oblate, 0, 40, 20.0),
+    mode(Oblate, 40, 80, 50.0),
+    mode(Prolate, 0, 199, 190.0),
+    mode(Oblate, 199, 398, 90.0),
+    mode(Prolate, 0, 4, 1e-8),
+    mode(Oblate, 4, 4, 1e-4),
+];
+
+impl Mode {
+    /// c of the call with this number. They differ in the sixth digit, so that branch prediction
+    /// does not learn the steps of one row by heart.
+    fn c_of(&self, call: usize) -> f64 {
+        self.c * (1.0 + (call % 1000) as f64 * 1e-6)
+    }
+
+    fn row(&self, library: &Library, c: f64) -> Row {
+        let function = match self.kind {
+            Prolate => library.prolate,
+            Oblate => library.oblate,
+        };
+        let [mut values, mut lowers, mut uppers] = [[0.0; PLACES]; 3];
+        let mut steps = [0; PLACES];
+        let mut substituted = [0; PLACES];
+        let answer = unsafe {
+            function(
+                self.m,
+                self.n,
+                c,
+                ALLOWANCE,
+                values.as_mut_ptr(),
+                PLACES,
+                steps.as_mut_ptr(),
+                PLACES,
+                lowers.as_mut_ptr(),
+                PLACES,
+                uppers.as_mut_ptr(),
+                PLACES,
+                substituted.as_mut_ptr(),
+                PLACES,
+            )
+        };
+        assert!(answer == 0, "{}: refused {answer}", self.name());
+        Row {
+            values: values.map(f64::to_bits),
+            lowers: lowers.map(f64::to_bits),
+            uppers: uppers.map(f64::to_bits),
+            steps,
+            substituted,
+        }
+    }
+
+    fn name(&self) -> String {
+        let kind = format!("{:?}", self.kind).to_lowercase();
+        format!("{kind} m {} n {} c {}", self.m, self.n, self.c)
+    }
+
+    /// One line of the table.
+    fn measure(&self, before: &Library, after: &Library) {
+        let once = seconds(|| drop((0..8).map(|i| self.row(before, self.c_of(i))).last())) / 8.0;
+        let calls = (ROUND / once).ceil() as usize;
+        for call in 0..calls.min(1000) {
+            let c = self.c_of(call);
+            let equal = self.row(before, c) == self.row(after, c);
+            assert!(equal, "{}: at c {c} the rows differ", self.name());
+        }
+        let run = |library: &Library| {
+            seconds(|| (0..calls).for_each(|i| drop(black_box(self.row(library, self.c_of(i))))))
+        };
+        let measured = Measured::rounds(ROUNDS, || run(after), || run(before));
+        let each = calls as f64;
+        println!(
+            "| {:<25} | {:>8} | {:>8} | {:.3} | {:.3} |",
+            self.name(),
+            time(measured.rust / each),
+            time(measured.ours / each),
+            measured.ratio(),
+            measured.median(),
+        );
+    }
+}
+
+fn main() {
+    let mut paths = std::env::args().skip(1);
+    let [before, after] = [(); 2].map(|()| load(&paths.next().expect("two libraries")));
+    println!("Rows of two builds, in turn, {ROUNDS} rounds, equal bit for bit. Time of a call in the best");
+    println!("round; ratio of these times, after to before, and the median of the rounds' ratios.\n");
+    println!("| row | before | after | ratio | median |");
+    println!("|---|---|---|---|---|");
+    for mode in &ROWS {
+        mode.measure(&before, &after);
+    }
+}
