@@ -148,7 +148,11 @@ impl Mode {
 
     fn name(&self) -> String {
         let kind = format!("{:?}", self.kind).to_lowercase();
-        format!("{kind} m {} n {} c {}", self.m, self.n, self.c)
+        let c = match self.c {
+            1e-3.. => format!("{}", self.c),
+            _ => format!("{:e}", self.c),
+        };
+        format!("{kind} m {} n {} c {c}", self.m, self.n)
     }
 
     /// One line of the table.
