@@ -44,7 +44,8 @@
  *
  * The functions keep no state, allocate nothing, touch no errno and may run in any number of threads
  * at once. Measured on x86-64, they use up to 29,400 bytes of stack in rows, 34,700 in DLMF rows,
- * 12,400 in radial functions and 5,200 in the others.
+ * 12,400 in radial functions and 5,200 in the others. Before 3.0.1 rows of both forms used 2,416 bytes
+ * more, for a buffer of squares.
  */
 #ifndef SPHEROIDAL_H
 #define SPHEROIDAL_H
