@@ -1,19 +1,19 @@
 //! Times the rows of two builds of the library side by side: another checkout's, which is called
-//! before, and this one's, after. Both are shared libraries, loaded into one process; their answers
-//! are held against each other bit for bit.
+//! before, and this one's, after. Each is a shared library made of `rows.rs`, and both are loaded into
+//! one process; their answers are held against each other bit for bit.
 
 #[allow(dead_code)]
 mod measure;
+mod row;
 
-use std::ffi::{CStr, CString, c_char, c_int, c_void};
+use std::ffi::{CString, c_char, c_int, c_void};
 use std::hint::black_box;
 
 use measure::{Measured, ROUNDS, seconds, time};
+use row::{Row, RowFunction};
 
 /// How long a round of one side takes, about, where one call does not take longer.
 const ROUND: f64 = 0.01;
-const PLACES: usize = 200;
-const ALLOWANCE: u16 = u16::MAX;
 const RTLD_NOW: c_int = 2;
 
 unsafe extern "C" {
@@ -21,54 +21,17 @@ unsafe extern "C" {
     fn dlsym(library: *mut c_void, symbol: *const c_char) -> *mut c_void;
 }
 
-type RowFunction = unsafe extern "C" fn(
-    m: u16,
-    n: u16,
-    c: f64,
-    allowance: u16,
-    values: *mut f64,
-    values_length: usize,
-    steps: *mut u16,
-    steps_length: usize,
-    lowers: *mut f64,
-    lowers_length: usize,
-    uppers: *mut f64,
-    uppers_length: usize,
-    substituted: *mut u8,
-    substituted_length: usize,
-) -> u8;
-
-struct Library {
-    prolate: RowFunction,
-    oblate: RowFunction,
-}
-
-fn found(pointer: *mut c_void, what: &str) -> *mut c_void {
-    assert!(!pointer.is_null(), "{what} was not found");
-    pointer
-}
-
-fn load(path: &str) -> Library {
+/// `bench_row` of the shared library at this path.
+fn load(path: &str) -> RowFunction {
     let file = CString::new(path).expect("a path");
-    let library = found(unsafe { dlopen(file.as_ptr(), RTLD_NOW) }, path);
-    let function = |symbol: &CStr| -> RowFunction {
-        let pointer = unsafe { dlsym(library, symbol.as_ptr()) };
-        unsafe { std::mem::transmute(found(pointer, &symbol.to_string_lossy())) }
-    };
-    Library {
-        prolate: function(c"spheroidal_prolate_row"),
-        oblate: function(c"spheroidal_oblate_row"),
+    // SAFETY: both names end with a zero, and `rows.rs` holds `bench_row` to this type.
+    unsafe {
+        let library = dlopen(file.as_ptr(), RTLD_NOW);
+        assert!(!library.is_null(), "{path} was not loaded");
+        let function = dlsym(library, c"bench_row".as_ptr());
+        assert!(!function.is_null(), "{path} has no bench_row");
+        std::mem::transmute::<*mut c_void, RowFunction>(function)
     }
-}
-
-/// A row's answer; past n − m every place is zero.
-#[derive(PartialEq)]
-struct Row {
-    values: [u64; PLACES],
-    lowers: [u64; PLACES],
-    uppers: [u64; PLACES],
-    steps: [u16; PLACES],
-    substituted: [u8; PLACES],
 }
 
 #[derive(Clone, Copy, Debug)]
@@ -110,40 +73,12 @@ impl Mode {
         self.c * (1.0 + (call % 1000) as f64 * 1e-6)
     }
 
-    fn row(&self, library: &Library, c: f64) -> Row {
-        let function = match self.kind {
-            Prolate => library.prolate,
-            Oblate => library.oblate,
-        };
-        let [mut values, mut lowers, mut uppers] = [[0.0; PLACES]; 3];
-        let mut steps = [0; PLACES];
-        let mut substituted = [0; PLACES];
-        let answer = unsafe {
-            function(
-                self.m,
-                self.n,
-                c,
-                ALLOWANCE,
-                values.as_mut_ptr(),
-                PLACES,
-                steps.as_mut_ptr(),
-                PLACES,
-                lowers.as_mut_ptr(),
-                PLACES,
-                uppers.as_mut_ptr(),
-                PLACES,
-                substituted.as_mut_ptr(),
-                PLACES,
-            )
-        };
-        assert!(answer == 0, "{}: refused {answer}", self.name());
-        Row {
-            values: values.map(f64::to_bits),
-            lowers: lowers.map(f64::to_bits),
-            uppers: uppers.map(f64::to_bits),
-            steps,
-            substituted,
-        }
+    fn row(&self, build: RowFunction, c: f64) -> Row {
+        let mut row = Row::new();
+        let oblate = matches!(self.kind, Oblate);
+        let accepted = build(oblate, self.m, self.n, c, &mut row);
+        assert!(accepted, "{} is refused", self.name());
+        row
     }
 
     fn name(&self) -> String {
@@ -156,7 +91,7 @@ impl Mode {
     }
 
     /// One line of the table.
-    fn measure(&self, before: &Library, after: &Library) {
+    fn measure(&self, before: RowFunction, after: RowFunction) {
         let once = seconds(|| drop((0..8).map(|i| self.row(before, self.c_of(i))).last())) / 8.0;
         let calls = (ROUND / once).ceil() as usize;
         for call in 0..calls.min(1000) {
@@ -164,8 +99,8 @@ impl Mode {
             let equal = self.row(before, c) == self.row(after, c);
             assert!(equal, "{}: at c {c} the rows differ", self.name());
         }
-        let run = |library: &Library| {
-            seconds(|| (0..calls).for_each(|i| drop(black_box(self.row(library, self.c_of(i))))))
+        let run = |build: RowFunction| {
+            seconds(|| (0..calls).for_each(|i| drop(black_box(self.row(build, self.c_of(i))))))
         };
         let measured = Measured::rounds(ROUNDS, || run(after), || run(before));
         let each = calls as f64;
@@ -183,11 +118,15 @@ impl Mode {
 fn main() {
     let mut paths = std::env::args().skip(1);
     let [before, after] = [(); 2].map(|()| load(&paths.next().expect("two libraries")));
-    println!("Rows of two builds, in turn, {ROUNDS} rounds, equal bit for bit. Time of a call in the best");
-    println!("round; ratio of these times, after to before, and the median of the rounds' ratios.\n");
+    println!(
+        "Rows of two builds, in turn, {ROUNDS} rounds, equal bit for bit. Time of a call in the best"
+    );
+    println!(
+        "round; ratio of these times, after to before, and the median of the rounds' ratios.\n"
+    );
     println!("| row | before | after | ratio | median |");
     println!("|---|---|---|---|---|");
     for mode in &ROWS {
-        mode.measure(&before, &after);
+        mode.measure(before, after);
     }
 }
