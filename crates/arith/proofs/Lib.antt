@@ -5,3 +5,4 @@ pub mod Fields
 pub mod Unsigned
 pub mod Laws
 pub mod Exact
+pub mod Units

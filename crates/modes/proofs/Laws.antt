@@ -29,7 +29,7 @@ use Rattle.modes.specs.declared.answers.Answer.{Answer}
 use Rattle.modes.specs.declared.answers.Answer.the-variants.{Pair, Quadruple, Refused}
 use Rattle.modes.specs.declared.checking.Mode.{Mode}
 use Rattle.modes.specs.declared.checking.Kind.{Kind}
-use Rattle.modes.specs.Refusals.{outOfRange, noParameter, refusalOf, rowRefusal, modeRefusal, entriesOf, #291, signOf, tooManyTerms, notFinite, radialModeRefusal}
+use Rattle.modes.specs.Refusals.{outOfRange, noParameter, refusalOf, rowRefusal, modeRefusal, entriesOf, #291, signOf, csOf, tooManyTerms, notFinite, radialModeRefusal}
 use Rattle.modes.specs.Radial.{radialRefusal, radialKinds, radialOf}
 use Rattle.modes.specs.FirstKind.{#200, tooFar, firstRefusal, pairOrRefusal, firstOf}
 use Rattle.modes.specs.Angular.{outside, angularRefusal, angularPair, angularOf}
@@ -169,10 +169,10 @@ module _ (kind : Kind) (x : Mode) (allowance : ℕ) (l : Slices) where
   unfolding rowIn
   zero-way y h e = rw (h, e)
 
-  pub bisected-way : (a : Numbered Slices) (s : Float) (k : ℕ) → lt (x .c) #1e-10 ≡ false → s ≡ signOf kind → k ≡ entriesOf x
-      → a ≡ segvRow (bothFamilies (x .m) (x .n) (x .c ⊗ x .c ⊗ s) k allowance) (x .n - x .m + 1) l → a ≡ rowIn kind x allowance l
+  pub bisected-way : (a : Numbered Slices) (cs : Float) (k : ℕ) → lt (x .c) #1e-10 ≡ false → cs ≡ csOf kind x → k ≡ entriesOf x
+      → a ≡ segvRow (bothFamilies (x .m) (x .n) cs k allowance) (x .n - x .m + 1) l → a ≡ rowIn kind x allowance l
   unfolding rowIn
-  bisected-way a s k t hs hk e = rw (t, ← hs, ← hk) e
+  bisected-way a cs k t hs hk e = rw (t, ← hs, ← hk) e
 
   -- ---- the whole row
   module _ (k : ℕ) (h : k ≡ rowRefusal x) where
@@ -214,9 +214,9 @@ module _ (kind : Kind) (x : Mode) (allowance : ℕ) (xs : List Float) (k : ℕ) 
       unfolding dlmfOf dlmfIn
       dlmf-refused n = rw (← h, z, lt-leb (length xs) (x .n - x .m) l, ← in-blank, ne-eqb (a .number) 0 n)
 
-      pub dlmf-done : (ys : List Float) → a .number ≡ 0 → ys ≡ lessened (a .after .values) (x .c ⊗ x .c) (x .n - x .m + 1) xs → answer 0 ys ≡ dlmfOf kind x allowance xs
+      pub dlmf-done : (ys : List Float) (γ² : Float) → a .number ≡ 0 → γ² ≡ csOf kind x → ys ≡ lessened (a .after .values) γ² (x .n - x .m + 1) xs → answer 0 ys ≡ dlmfOf kind x allowance xs
       unfolding dlmfOf dlmfIn
-      dlmf-done ys n e = rw (← h, z, lt-leb (length xs) (x .n - x .m) l, ← in-blank, n, e)
+      dlmf-done ys γ² n g e = rw (← h, z, lt-leb (length xs) (x .n - x .m) l, ← in-blank, n, ← g, e)
 
 -- ---- coefficients
 module _ (kind : Kind) (x : Mode) (cv : Float) (xs : List Float) (k : ℕ) (h : k ≡ modeRefusal x) where

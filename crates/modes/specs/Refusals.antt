@@ -3,7 +3,7 @@ use Prim.Native.Nat.{ℕ, _+_, _-_}
 use mathlib.Core.Bool.{Bool, true, false, cond, _||_}
 use lib.Dec.{eqb, ltb}
 use lib.Ieee.{Float, nan, inf, fin, lt, neg}
-use Rattle.arith.specs.Double.{bits, #0, #1}
+use Rattle.arith.specs.Double.{_⊗_, bits, #0, #1}
 use Rattle.arith.specs.Truncation.{wholePart}
 use Rattle.expansion.specs.Terms.{#175, hOf, termsOf}
 use Rattle.modes.specs.declared.checking.Kind.{Kind}
@@ -14,6 +14,10 @@ use Rattle.modes.specs.declared.checking.Mode.{Mode}
 unfoldable pub signOf : Kind → Float
 signOf Prolate = #1
 signOf Oblate = neg #1
+
+-- cs is c × c × kd
+abbrev pub csOf : Kind → Mode → Float
+csOf kind x = x .c ⊗ x .c ⊗ signOf kind
 
 -- K is 10 + H truncated
 unfoldable pub entriesOf : Mode → ℕ

@@ -11,7 +11,7 @@ use Rattle.segv.specs.Families.{bothFamilies}
 use Rattle.segv.specs.Row.{Slices, slices, writtenRow, Numbered, answer, segvRow}
 use Rattle.modes.specs.declared.checking.Kind.{Kind}
 use Rattle.modes.specs.declared.checking.Mode.{Mode}
-use Rattle.modes.specs.Refusals.{signOf, entriesOf, rowRefusal}
+use Rattle.modes.specs.Refusals.{csOf, entriesOf, rowRefusal}
 
 -- ---- the row
 
@@ -25,11 +25,11 @@ tooShort x l =
 unfoldable pub zeroAt : ℕ → ℕ → Bracket
 zeroAt m j = let v = dbl (m + j) ⊗ dbl (m + j + 1) in record { value = v; lower = v; upper = v; steps = 0; substituted = false }
 
--- where c < 1e-10 the zero-parameter row, and else the bisected one, with cs = c × c × kd and K entries
+-- where c < 1e-10 the zero-parameter row, and else the bisected one, with cs and K entries
 unfoldable pub rowIn : Kind → Mode → ℕ → Slices → Numbered Slices
 rowIn kind x allowance l =
     cond (lt (x .c) #1e-10) (answer 0 (writtenRow (zeroAt (x .m)) (x .n - x .m + 1) l))
-    (segvRow (bothFamilies (x .m) (x .n) (x .c ⊗ x .c ⊗ signOf kind) (entriesOf x) allowance) (x .n - x .m + 1) l)
+    (segvRow (bothFamilies (x .m) (x .n) (csOf kind x) (entriesOf x) allowance) (x .n - x .m + 1) l)
 
 -- refused 4, 5, 6 or 9, the slices stay as they were
 unfoldable pub rowOf : Kind → Mode → ℕ → Slices → Numbered Slices
@@ -37,22 +37,22 @@ rowOf kind x allowance l =
     let r = cond (tooShort x l) (answer 9 l) (rowIn kind x allowance l) in
     cond (eqb (rowRefusal x) 0) r (answer (rowRefusal x) l)
 
--- ---- DLMF's form
+-- ---- DLMF's form: DLMF's eigenvalue plus γ² is the value of Flammer. γ² is c² for prolate modes and −c² for oblate ones, which is cs, so that the eigenvalue is the value less c × c or plus c × c
 
 -- room for a row of 200 modes
 unfoldable pub blankSlices : Slices
 blankSlices = slices (replicate 200 #0) (replicate 200 0) (replicate 200 #0) (replicate 200 #0) (replicate 200 0)
 
--- a list with the first n values, each less x, in its first n places
+-- a list with the first n values, each less γ², in its first n places
 unfoldable pub lessened : List Float → Float → ℕ → List Float → List Float
-lessened values x zero xs = xs
-lessened values x (suc n) xs = set (lessened values x n xs) n (at values n ⊖ x)
+lessened values γ² zero xs = xs
+lessened values γ² (suc n) xs = set (lessened values γ² n xs) n (at values n ⊖ γ²)
 
--- from the answer of the row: each value less c × c
-unfoldable pub dlmfIn : Mode → Numbered Slices → List Float → Numbered (List Float)
-dlmfIn x a xs = cond (eqb (a .number) 0) (answer 0 (lessened (a .after .values) (x .c ⊗ x .c) (x .n - x .m + 1) xs)) (answer (a .number) xs)
+-- from the answer of the row, below 1e-10 too
+unfoldable pub dlmfIn : Kind → Mode → Numbered Slices → List Float → Numbered (List Float)
+dlmfIn kind x a xs = cond (eqb (a .number) 0) (answer 0 (lessened (a .after .values) (csOf kind x) (x .n - x .m + 1) xs)) (answer (a .number) xs)
 
 unfoldable pub dlmfOf : Kind → Mode → ℕ → List Float → Numbered (List Float)
 dlmfOf kind x allowance xs =
-    let r = cond (leb (length xs) (x .n - x .m)) (answer 9 xs) (dlmfIn x (rowIn kind x allowance blankSlices) xs) in
+    let r = cond (leb (length xs) (x .n - x .m)) (answer 9 xs) (dlmfIn kind x (rowIn kind x allowance blankSlices) xs) in
     cond (eqb (rowRefusal x) 0) r (answer (rowRefusal x) xs)

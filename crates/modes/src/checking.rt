@@ -107,6 +107,13 @@ impl Mode {
         self.refusal(Mode::LIMIT)
     }
 
+    // Document 01's cs, which is DLMF's gamma squared: c * c, negated for oblate modes.
+    pub(crate) fn cs(self, kind: Kind) -> f64
+        ensures { λ r. ⌜ r ≡ Refusals.csOf kind self ⌝ }
+    {
+        self.c * self.c * sign(kind)
+    }
+
     // How many entries the matrix of a row has: document 01's K.
     pub(crate) fn entries(self) -> u32
         requires { ⌜ Refusals.rowRefusal self ≡ 0 ⌝ }

@@ -68,7 +68,7 @@ fn row_in(
         );
         return 0;
     }
-    let cs = c * c * super::checking::sign(kind);
+    let cs = mode.cs(kind);
     let entries = mode.entries();
     segv::segv(
         m,
@@ -177,14 +177,14 @@ pub fn zero_steps() -> Steps
     [0; 200]
 }
 
-// The first n values, each less x.
-fn lessen(values: &[f64; 200], x: f64, n: usize, out: &mut [f64])
+// The first n values, each less gamma squared.
+fn lessen(values: &[f64; 200], gamma_squared: f64, n: usize, out: &mut [f64])
     requires { ⌜ (n ≤ 200) × (n ≤ length (now out)) ⌝ }
-    ensures { λ _. ⌜ now (out .exit) ≡ lessened (now (values .entry)) x n (now (out .entry)) ⌝ }
+    ensures { λ _. ⌜ now (out .exit) ≡ lessened (now (values .entry)) «gamma_squared» n (now (out .entry)) ⌝ }
 {
     let mut j: usize = 0;
     while j < n {
-        out[j] = values[j] - x;
+        out[j] = values[j] - gamma_squared;
         j = j + 1;
     }
 }
@@ -219,11 +219,12 @@ fn dlmf_number(kind: Kind, mode: Mode, allowance: u16, out: &mut [f64]) -> u8
     if number != 0 {
         return number;
     }
-    lessen(&values, mode.c * mode.c, last + 1, out);
+    lessen(&values, mode.cs(kind), last + 1, out);
     0
 }
 
-// The row in DLMF's form: each value less c * c. Refusals 4, 5, 6, 9 and 10.
+// The row in DLMF's form: each value less gamma squared, which is c * c for prolate modes and -c * c for
+// oblate ones. Refusals 4, 5, 6, 9 and 10.
 pub fn dlmf_row(kind: Kind, mode: Mode, allowance: u16, values: &mut [f64]) -> SliceAnswer
     ensures { λ r. ⌜ record { answer = r; after = now (values .exit) } ≡ outcome (dlmfOf kind mode allowance (now (values .entry))) ⌝ }
 {

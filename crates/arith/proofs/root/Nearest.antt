@@ -1,60 +1,27 @@
 -- `sqrt` gives the nearest double: of any two finite doubles the exact root of x lies on the side of `sqrt x`. Assumes nothing.
 use mathlib.Core.Path.{_≡_, sym, ap, _∙_, subst}
 use Prim.Native.Nat.{ℕ, zero, suc, _+_, _-_, _*_, _/_, _%_, _^_, _≤_, _<_, compare, Ordering, Ordering·lt, Ordering·eq, Ordering·gt}
-use native.Mathlib.Nat.{le-refl, le-trans, le-of-eq, le-of-lt, lt-of-lt-of-le, lt-of-le-of-lt, lt-of-not-le, lt-irrefl, not-le-of-lt, mul-one, zero-mul, mul-comm, mul-assoc, mul-right-comm, mul-mul-mul-comm, add-mul, mul-le-mul, mul-le-mul-right, mul-lt-mul-of-pos-right, lt-of-mul-lt-mul-right, mul-pos, div-one, pow-succ'}
+use native.Mathlib.Nat.{le-refl, le-trans, le-of-eq, le-of-lt, lt-of-lt-of-le, lt-of-le-of-lt, lt-of-not-le, not-le-of-lt, mul-one, mul-comm, mul-assoc, mul-right-comm, mul-mul-mul-comm, add-mul, mul-le-mul, mul-le-mul-right, mul-lt-mul-of-pos-right, lt-of-mul-lt-mul-right, mul-pos, div-one, pow-succ'}
 use native.Mathlib.Omega.{arith}
 use native.Mathlib.Decide.{decLe}
-use mathlib.Core.Bool.{true, false, _&&_}
-use lib.Dec.{T, leb, ltb, eqb, ltb→lt, leb→le}
-use lib.IntN.{ℤ, pos, negsuc}
-use lib.Pow.{pow-add, pow-pos, pow-lt, pow-mono}
+use mathlib.Core.Bool.{true, false}
+use lib.Dec.{T, ltb→lt}
+use lib.IntN.{ℤ, pos}
+use lib.Pow.{pow-add, pow-pos, pow-mono}
 use lib.Ieee.{Float, nan, inf, fin, up, down, binary64, nearest, units, toBits, lt, fits}
 use lib.Ieee.Exact.{HasValue, units-val}
-use lib.Ieee.Fits.{and-l, and-r, down-pos}
+use lib.Ieee.Fits.{down-pos}
 use lib.Ieee.Positive.{num, den, positive, den-pos, own-value, value-pos, value→cross, positive-of-value}
 use lib.Ieee.Scale.{finite}
 use Rattle.arith.specs.Root.{floorRoot, nearestRoot, sqrt}
 use Rattle.arith.specs.Inside.Scaled.{IsScaled}
 use Rattle.arith.specs.NearestRoot.{NearestRoot, RootBelowMiddle, RootAboveMiddle}
+use Rattle.arith.proofs.Units.{U, InUnits, in-units}
 use Rattle.arith.proofs.root.Squares.{floorRoot-is, sq-lt-back, sq-odd, sq-suc, compared, Compared}
 use Rattle.arith.proofs.root.Pack.{bits-pos, bits-finite, units-fit, under}
 use Rattle.arith.proofs.root.Unpack.{moved, scaled-low, scaled-high}
 use Rattle.arith.proofs.root.Radicand.{four-squares, n, n-lo, result-ge, result-le, radicand, root-units}
 use lib.Count.{leadingZeros}
-
--- ---- a double in units of 2 ^ -1074: a number of 53 digits at most, times a power of two
-abbrev U : ℕ
-U = 2 ^ 1074
-
-pow-le-back : (a l : ℕ) → 2 ^ a ≤ 2 ^ l → a ≤ l
-pow-le-back a l h = leave (λ (g : suc l ≤ a). lt-irrefl (2 ^ l) (lt-of-lt-of-le (pow-lt g) h))
-  where
-    leave : (suc l ≤ a → ⊥) → a ≤ l
-    leave f = omega arith
-
-placed : (m : ℕ) (d : ℤ) → down d ≤ U → (j : ℕ) × (m * up d * U ≡ m * 2 ^ j * down d)
-placed m (pos a) h = (a + 1074, mul-assoc m (2 ^ a) U ∙ ap (λ (x : ℕ). m * x) (sym (pow-add 2 a 1074)) ∙ sym (mul-one (m * 2 ^ (a + 1074))))
-placed m (negsuc a) h =
-    let l : suc a ≤ 1074 = pow-le-back (suc a) 1074 h in
-    (1074 - suc a, ap (λ (x : ℕ). x * U) (mul-one m) ∙ ap (λ (x : ℕ). m * 2 ^ x) (back a l) ∙ ap (λ (x : ℕ). m * x) (pow-add 2 (1074 - suc a) (suc a)) ∙ sym (mul-assoc m (2 ^ (1074 - suc a)) (2 ^ suc a)))
-  where
-    back : (a : ℕ) → suc a ≤ 1074 → 1074 ≡ 1074 - suc a + suc a
-    back a h = omega arith
-
--- the fraction c / d is m * 2 ^ j units
-abbrev InUnits : ℕ → ℕ → Type 0
-InUnits c d = (m : ℕ) × (j : ℕ) × (m < 2 ^ 53) × (c * U ≡ m * 2 ^ j * d)
-
-in-units : (m : ℕ) (d : ℤ) → T (fits binary64 (fin false m d)) → InUnits (m * up d) (down d)
-unfolding fits
-in-units zero d h = (0, 0, pow-pos 53, ap (λ (x : ℕ). x * U) (zero-mul (up d)) ∙ sym (zero-mul (down d)))
-in-units (suc m) d h =
-    let A = eqb (suc m % 2) 1 in
-    let B = ltb (suc m) (2 ^ 53) in
-    let C = leb (down d) U in
-    let D = ltb (suc m * up d) (2 ^ 1024 * down d) in
-    let p = placed (suc m) d (leb→le (down d) U (and-r (A && B) C (and-l (A && B && C) D h))) in
-    (suc m, p .0, ltb→lt (suc m) (2 ^ 53) (and-r A B (and-l (A && B) C (and-l (A && B && C) D h))), p .1)
 
 -- ---- the doubles on either side of r * 2 ^ k units, for an r of 53 digits
 module _ (r k m j : ℕ) (least : 2 ^ 52 ≤ r) (few : m < 2 ^ 53) where
@@ -336,7 +303,7 @@ module _ (x : Float) (held : T (fits binary64 x)) (above-zero : T (positive x)) 
   -- with a double y * 2 ^ d that is not negative
   module _ (y : ℕ) (d : ℤ) (f : T (fits binary64 (fin false y d))) where
     abbrev u : InUnits (y * up d) (down d)
-    u = in-units y d f
+    u = in-units false y d f
 
     beside-greater : num v * down d < y * up d * den v → RootBelowMiddle x v (fin false y d)
     beside-greater h =

@@ -1,16 +1,14 @@
 -- No second double is nearest to a root: `NearestRoot` alone determines it. Assumes nothing.
 use mathlib.Core.Path.{_≡_, refl, sym, ap, _∙_}
-use Prim.Native.Nat.{ℕ, _+_, _-_, _*_, _/_, _^_, _≤_, _<_}
-use native.Mathlib.Nat.{add-comm, le-antisymm, le-of-eq, le-of-lt, lt-of-lt-of-le, lt-of-le-of-lt, lt-of-not-le, lt-irrefl, mul-comm, mul-right-comm}
+use Prim.Native.Nat.{ℕ, _+_, _*_, _≤_, _<_}
+use native.Mathlib.Nat.{add-comm, le-antisymm, le-of-eq, le-of-lt, lt-of-lt-of-le, lt-of-le-of-lt, lt-of-not-le, lt-irrefl, mul-comm}
 use native.Mathlib.Decide.{decLe}
 use mathlib.Core.Bool.{true, false}
 use lib.Dec.{T, lt→ltb}
-use lib.Ieee.{Float, nan, inf, fin, up, down, binary64, size, toBits, lt, fits}
-use lib.Ieee.Bits.{ofBits-toBits}
-use lib.Ieee.Nearest.{div-same}
-use lib.Ieee.Positive.{num, den, positive, positive-finite, den-pos}
-use Rattle.arith.specs.Double.{bits}
+use lib.Ieee.{Float, nan, inf, fin, up, down, binary64, lt, fits}
+use lib.Ieee.Positive.{num, den, positive, positive-finite}
 use Rattle.arith.specs.NearestRoot.{NearestRoot, total}
+use Rattle.arith.proofs.Units.{same-number}
 
 total-is : (r s : Float) → T (positive s) → total r s ≡ num r * den s + num s * den r
 total-is r nan q = absurd q
@@ -18,26 +16,18 @@ total-is r (inf t) q = absurd q
 total-is r (fin true n d) q = absurd q
 total-is r (fin false n d) q = refl
 
--- the bits of a double above zero, from its value in units of 2 ^ -1074
-abbrev pattern : ℕ → ℕ
-pattern n = 0 + (size n - 53) * 2 ^ 52 + n / 2 ^ (size n - 53)
-
-pattern-is : (x : Float) → T (positive x) → toBits binary64 x ≡ pattern (num x * 2 ^ 1074 / den x)
-unfolding toBits
-pattern-is nan p = absurd p
-pattern-is (inf t) p = absurd p
-pattern-is (fin true m e) p = absurd p
-pattern-is (fin false m e) p = refl
-
 module _ (r s : Float) (p : T (positive r)) (q : T (positive s)) where
   total-comm : total s r ≡ total r s
   total-comm = total-is s r p ∙ add-comm (num s * den r) (num r * den s) ∙ sym (total-is r s q)
 
-  same-number : T (fits binary64 r) → T (fits binary64 s) → num r * den s ≡ num s * den r → r ≡ s
-  same-number f g e = sym (ofBits-toBits binary64 r f) ∙ ap bits (pattern-is r p ∙ ap pattern (div-same (num r * 2 ^ 1074) (den r) (num s * 2 ^ 1074) (den s) (den-pos r) (den-pos s) scaled-up) ∙ sym (pattern-is s q)) ∙ ofBits-toBits binary64 s g
-    where
-      scaled-up : num r * 2 ^ 1074 * den s ≡ num s * 2 ^ 1074 * den r
-      scaled-up = mul-right-comm (num r) (2 ^ 1074) (den s) ∙ ap (λ (z : ℕ). z * 2 ^ 1074) e ∙ mul-right-comm (num s) (den r) (2 ^ 1074)
+equal-numbers : (r s : Float) → T (positive r) → T (positive s) → T (fits binary64 r) → T (fits binary64 s) → num r * den s ≡ num s * den r → r ≡ s
+equal-numbers nan s p q f g e = absurd p
+equal-numbers (inf t) s p q f g e = absurd p
+equal-numbers (fin true m d) s p q f g e = absurd p
+equal-numbers (fin false m d) nan p q f g e = absurd q
+equal-numbers (fin false m d) (inf t) p q f g e = absurd q
+equal-numbers (fin false m d) (fin true n k) p q f g e = absurd q
+equal-numbers (fin false m d) (fin false n k) p q f g e = same-number false m d n k f g e
 
 cross-lt : (r s : Float) → T (positive r) → T (positive s) → num r * den s < num s * den r → T (lt r s)
 unfolding lt
@@ -61,6 +51,6 @@ pub nearest-unique : (x r s : Float) → NearestRoot x r → NearestRoot x s →
 nearest-unique x r s a b = go (decLe (num s * den r) (num r * den s)) (decLe (num r * den s) (num s * den r))
   where
     go : Dec (num s * den r ≤ num r * den s) → Dec (num r * den s ≤ num s * den r) → r ≡ s
-    go (yes g) (yes h) = same-number r s (a .above-zero) (b .above-zero) (a .double) (b .double) (le-antisymm h g)
+    go (yes g) (yes h) = equal-numbers r s (a .above-zero) (b .above-zero) (a .double) (b .double) (le-antisymm h g)
     go (yes g) (no f) = absurd (not-lower x s r b a (lt-of-not-le f))
     go (no f) h = absurd (not-lower x r s a b (lt-of-not-le f))

@@ -74,6 +74,9 @@ returns-3 c = laws.dlmf-refused _ _ _ _ _ (c .before .before .before .before .be
 add-lessen : tie.Need-add-lessen
 add-lessen c = search needs
 
+cs-requires : tie.Need-cs-requires
+cs-requires c κs = search needs
+
 lessen-requires : tie.Need-lessen-requires
 lessen-requires c κs =
     let ok = laws.accepted (c .before .before .before .before .before .before .before .before .before .before .before .before .before .before .before .before .before .before .before .before .before .before .before .before .before .args .mode) (sym (c .before .before .before .before .before .before .before .before .before .before .before .before .before .before .before .before .before .before .before .before .before .before .before .row-refusal .ensures) ∙ c .before .before .before .before .before .before .before .before .before .before .before .before .before .before .before .before .before .before .before .before .before .before .if1 .left) in
@@ -85,7 +88,7 @@ same-length c = search needs
 
 returns-4 : tie.Need-returns-4
 unfolding Sums.blank
-returns-4 c = laws.dlmf-done _ _ _ _ _ (c .before .before .before .before .before .before .before .before .before .before .before .before .before .before .before .before .before .before .before .before .before .before .before .before .before .before .row-refusal .ensures) (c .before .before .before .before .before .before .before .before .before .before .before .before .before .before .before .before .before .before .before .before .before .before .before .before .before .if1 .left) (c .before .before .before .before .before .before .before .before .before .before .before .before .before .before .before .before .before .before .before .before .before .before .before .if2 .left) _ _ _ _ _ (c .before .before .before .before .before .before .before .before .before .before .before .before .before .before .before .before .before .before .before .before .before .before .blank .ensures) (c .before .before .before .before .before .before .before .before .before .before .before .before .before .before .before .before .before .before .before .before .before .zero-steps .ensures) (c .before .before .before .before .before .before .before .before .before .before .before .before .before .before .before .before .before .before .before .before .blank2 .ensures) (c .before .before .before .before .before .before .before .before .before .before .before .before .before .before .before .before .before .before .before .blank3 .ensures) (c .before .before .before .before .before .before .before .before .before .before .before .before .before .before .before .before .before .before .zero-flags .ensures) _ (c .before .before .before .before .before .before .before .before .before .before .before .before .row-in .ensures) _ (c .before .before .before .before .before .before .if3 .left) (c .before .before .lessen .ensures)
+returns-4 c = laws.dlmf-done _ _ _ _ _ (c .before .before .before .before .before .before .before .before .before .before .before .before .before .before .before .before .before .before .before .before .before .before .before .before .before .before .row-refusal .ensures) (c .before .before .before .before .before .before .before .before .before .before .before .before .before .before .before .before .before .before .before .before .before .before .before .before .before .if1 .left) (c .before .before .before .before .before .before .before .before .before .before .before .before .before .before .before .before .before .before .before .before .before .before .before .if2 .left) _ _ _ _ _ (c .before .before .before .before .before .before .before .before .before .before .before .before .before .before .before .before .before .before .before .before .before .before .blank .ensures) (c .before .before .before .before .before .before .before .before .before .before .before .before .before .before .before .before .before .before .before .before .before .zero-steps .ensures) (c .before .before .before .before .before .before .before .before .before .before .before .before .before .before .before .before .before .before .before .before .blank2 .ensures) (c .before .before .before .before .before .before .before .before .before .before .before .before .before .before .before .before .before .before .before .blank3 .ensures) (c .before .before .before .before .before .before .before .before .before .before .before .before .before .before .before .before .before .before .zero-flags .ensures) _ (c .before .before .before .before .before .before .before .before .before .before .before .before .row-in .ensures) _ _ (c .before .before .before .before .before .before .if3 .left) (c .before .before .before .before .cs .ensures) (c .before .before .lessen .ensures)
 
 pub dlmf-number-spec : {M : Type 1} → statement M
 dlmf-number-spec =
@@ -108,6 +111,7 @@ dlmf-number-spec =
     slice-aggregate-row-in-5
     row-in-requires
     returns-3
+    cs-requires
     add-lessen
     lessen-requires
     same-length

@@ -41,8 +41,8 @@ same-length-5 c = search needs
 returns : tie.Need-returns
 returns c = laws.zero-way _ _ _ _ _ (c .before .before .before .before .before .before .before .before .before .before .before .before .before .before .before .before .if1 .taken) (c .before .before .before .before .before .before .before .before .before .before .zero-row .ensures)
 
-sign-requires : tie.Need-sign-requires
-sign-requires c κs = search needs
+cs-requires : tie.Need-cs-requires
+cs-requires c κs = search needs
 
 entries-requires : tie.Need-entries-requires
 entries-requires c κs = c .before .before .before .before .before .before .before .before .before .pre .0
@@ -70,7 +70,7 @@ same-length-10 : tie.Need-same-length-10
 same-length-10 c = search needs
 
 returns-2 : tie.Need-returns-2
-returns-2 c = laws.bisected-way _ _ _ _ _ _ _ (c .before .before .before .before .before .before .before .before .before .before .before .before .before .before .before .before .before .before .if1 .left) (c .before .before .before .before .before .before .before .before .before .before .before .before .before .before .before .before .before .sign .ensures) (c .before .before .before .before .before .before .before .before .before .before .before .before .before .before .before .before .entries .ensures) (c .before .before .before .before .before .before .before .before .before .before .segv .ensures)
+returns-2 c = laws.bisected-way _ _ _ _ _ _ _ (c .before .before .before .before .before .before .before .before .before .before .before .before .before .before .before .before .before .before .if1 .left) (c .before .before .before .before .before .before .before .before .before .before .before .before .before .before .before .before .before .cs .ensures) (c .before .before .before .before .before .before .before .before .before .before .before .before .before .before .before .before .entries .ensures) (c .before .before .before .before .before .before .before .before .before .before .segv .ensures)
 
 pub row-in-spec : {M : Type 1} → statement M
 row-in-spec =
@@ -88,7 +88,7 @@ row-in-spec =
     same-length-4
     same-length-5
     returns
-    sign-requires
+    cs-requires
     entries-requires
     segv-requires
     same-length-6
