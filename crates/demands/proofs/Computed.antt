@@ -1,7 +1,7 @@
 -- What computing an answer unfolds, routine by routine. A theorem by computation names this list alone.
 use mathlib.Core.Bool.{Bool, true}
 use lib.Ieee.{add, sub, mul, div, neg, lt, le, eq, ofInt, ofBits, toBits, toUnsigned}
-use Rattle.arith.specs.Choice.{abs}
+use Rattle.arith.specs.Choice.{abs, lesser, greater}
 use Rattle.arith.specs.Powers.{power}
 use Rattle.arith.specs.Root.{sqrt}
 use Rattle.arith.specs.Inside.Scaled as Scaled
@@ -14,9 +14,12 @@ use Rattle.bessel.specs.Secant as Secant
 use Rattle.bessel.specs.Msta1.{firstOrder, msta1}
 use Rattle.bessel.specs.Msta2.{searchFor, tenMore, msta2}
 use Rattle.bessel.specs.Sphj as Sphj
-use Rattle.segv.specs.Bisection.{bisection}
-use Rattle.segv.specs.Families.{familyFrom, bisectedFamily, familyOf, bothFamilies, eitherStopped}
-use Rattle.segv.specs.Row.{written, writtenRow, segvRow}
+use Rattle.sturm.specs.Entries.{firstEntries, blankEntries, entryE}
+use Rattle.sturm.specs.Bounds.{boundsOf, boundsFrom, widen}
+use Rattle.sturm.specs.Pivots.{negativePivots, pivotsAt, nextPivot, divisor}
+use Rattle.segv.specs.Bisection.{withMidpoint, converged, tighten, tightenCounted, tightenOthers, bisection}
+use Rattle.segv.specs.Families.{firstBelow, raised, openedAt, blankBracket, familyFrom, bisectedFamily, familyOf, bothFamilies, eitherStopped}
+use Rattle.segv.specs.Row.{modeAt, written, writtenRow, segvRow}
 use Rattle.expansion.specs.Terms.{termsOf, clamped}
 use Rattle.expansion.specs.Products.{rising, risingBy}
 use Rattle.expansion.specs.Sums as Sums
@@ -29,7 +32,7 @@ use Rattle.radial.specs.BesselSums as BesselSums
 use Rattle.radial.specs.Rmn1 as Rmn1
 use Rattle.radial.specs.Rmn2so.{rmn2so}
 use Rattle.radial.specs.Rswfo.{rswfo, firstKind}
-use Rattle.modes.specs.Refusals.{signOf, outOfRange, noParameter, refusalOf, tooManyTerms, notFinite, radialModeRefusal}
+use Rattle.modes.specs.Refusals.{signOf, entriesOf, outOfRange, noParameter, refusalOf, tooManyTerms, notFinite, radialModeRefusal}
 use Rattle.modes.specs.Rows.{tooShort, zeroAt, rowIn, rowOf, blankSlices, lessened, dlmfIn, dlmfOf}
 use Rattle.modes.specs.Angular.{outside, angularRefusal, angularPair, angularOf}
 use Rattle.modes.specs.Radial.{radialRefusal, radialKinds, radialOf}
@@ -40,12 +43,16 @@ unfolding add sub mul div neg lt le eq ofInt ofBits toBits toUnsigned abs power 
 doubles = true
 
 unfoldable refusals : Bool
-unfolding signOf outOfRange noParameter refusalOf tooManyTerms notFinite radialModeRefusal tooFar termsOf
+unfolding signOf entriesOf outOfRange noParameter refusalOf tooManyTerms notFinite radialModeRefusal tooFar termsOf
 refusals = true
 
 unfoldable rows : Bool
 unfolding rowOf rowIn tooShort zeroAt blankSlices lessened dlmfIn dlmfOf written writtenRow segvRow eitherStopped bothFamilies familyOf bisectedFamily familyFrom bisection
 rows = true
+
+unfoldable bisected : Bool
+unfolding lesser greater firstEntries blankEntries entryE boundsOf boundsFrom widen negativePivots pivotsAt nextPivot divisor withMidpoint converged tighten tightenCounted tightenOthers firstBelow raised openedAt blankBracket modeAt
+bisected = true
 
 unfoldable coefficients : Bool
 unfolding Sdmn.sdmn Sdmn.recurrenceOf Sdmn.expanded Sdmn.normalised Sdmn.normOf Sdmn.r4Of Sdmn.sumPast Sdmn.factorAt Sdmn.sumUpTo Sdmn.sumOn Sdmn.ascended Sdmn.climbed Sdmn.storedBelow Sdmn.descend Sdmn.exceeds Sdmn.reducedPlaces Sdmn.scaled Sdmn.reduced Sdmn.tooLarge Sdmn.second Sdmn.above Sdmn.below sckb filled factorial sumOf firstFactor terms regulator Sums.settled Sums.blank rising risingBy clamped
@@ -76,5 +83,5 @@ unfolding firstOf firstRefusal pairOrRefusal firstKind Rmn1.rmn1 Rmn1.toHalf Rmn
 firstKinds = true
 
 unfoldable pub computed : Bool
-unfolding doubles refusals rows coefficients pairs quadruples firstKinds
+unfolding doubles refusals rows bisected coefficients pairs quadruples firstKinds
 computed = true

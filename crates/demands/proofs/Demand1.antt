@@ -54,13 +54,13 @@ row-kept : (kind : Kind) (x : Mode) (allowance : ℕ) (l : Slices) → Kept l (r
 unfolding rowOf
 row-kept kind x allowance l = either l (eqb (rowRefusal x) 0) (either l (tooShort x l) (refused l 9) (row-in-kept kind x allowance l)) (refused l _)
 
-dlmf-in-kept : (x : Mode) (a : Numbered Slices) (xs : List Float) → Kept xs (dlmfIn x a xs)
+dlmf-in-kept : (kind : Kind) (x : Mode) (a : Numbered Slices) (xs : List Float) → Kept xs (dlmfIn kind x a xs)
 unfolding dlmfIn
-dlmf-in-kept x a xs = either xs (eqb (a .number) 0) (filled xs _) (refused xs _)
+dlmf-in-kept kind x a xs = either xs (eqb (a .number) 0) (filled xs _) (refused xs _)
 
 dlmf-kept : (kind : Kind) (x : Mode) (allowance : ℕ) (xs : List Float) → Kept xs (dlmfOf kind x allowance xs)
 unfolding dlmfOf
-dlmf-kept kind x allowance xs = either xs (eqb (rowRefusal x) 0) (either xs (leb (length xs) (x .n - x .m)) (refused xs 9) (dlmf-in-kept x _ xs)) (refused xs _)
+dlmf-kept kind x allowance xs = either xs (eqb (rowRefusal x) 0) (either xs (leb (length xs) (x .n - x .m)) (refused xs 9) (dlmf-in-kept kind x _ xs)) (refused xs _)
 
 coefficients-kept : (kind : Kind) (x : Mode) (cv : Float) (xs : List Float) → Kept xs (coefficientsOf kind x cv xs)
 unfolding coefficientsOf

@@ -6,18 +6,21 @@ use mathlib.Core.Path.{_≡_, refl, sym, ap, _∙_}
 use mathlib.Core.Bool.{Bool, true, false}
 use mathlib.Core.List.{List}
 use borrow.Author.Tests.{eqb-true, eqb-false, leb-false}
-use lib.Dec.{eqb, leb}
-use lib.Ieee.{Float, nan}
+use lib.Dec.{T, eqb, leb}
+use lib.Ieee.{Float, nan, binary64, fits}
+use lib.Ieee.Fits.{mul-fits}
 use lib.ListN.{length, set, length-set}
 use lib.Seq.{getD-set-same, getD-set-other}
 use Rattle.arith.specs.Double.{_⊖_, _⊗_, at}
+use Rattle.arith.proofs.Units.{times-one, times-minus-one, less-negative}
 use Rattle.segv.specs.declared.bisection.Bracket.{Bracket}
 use Rattle.segv.proofs.Sound.{row-sound}
 use Rattle.modes.specs.declared.checking.Mode.{Mode}
 use Rattle.modes.specs.declared.checking.Kind.{Kind}
-use Rattle.modes.specs.Refusals.{rowRefusal, signOf, entriesOf}
+use Rattle.modes.specs.declared.checking.Kind.the-variants.{Prolate, Oblate}
+use Rattle.modes.specs.Refusals.{rowRefusal, signOf, csOf, entriesOf}
 use Rattle.modes.specs.Rows.{rowIn, blankSlices, lessened, dlmfIn, dlmfOf}
-use Rattle.demands.specs.Demand3.{Demand3Rows, Demand3Dlmf}
+use Rattle.demands.specs.Demand3.{eigenvalue, Demand3Rows, Demand3Dlmf}
 use Rattle.modes.proofs.Laws.{accepted}
 use Rattle.demands.proofs.Filled.{bracketAt, Given, given-in, filled, filled-of, long-all, blank-room, handed-at}
 
@@ -27,7 +30,7 @@ demand-3-rows kind x allowance l h z j hj =
     let k = long-all x l (g .long) in
     let r = g .range in
     rw (g .is, handed-at x (bracketAt kind x allowance) l k j hj, z)
-    (row-sound (x .m) (x .n) (x .c ⊗ x .c ⊗ signOf kind) (entriesOf x) allowance (omega arith) (g .given .kept z) j hj)
+    (row-sound (x .m) (x .n) (csOf kind x) (entriesOf x) allowance (omega arith) (g .given .kept z) j hj)
 
 -- ---- DLMF rows
 module _ (values : List Float) (y : Float) (xs : List Float) where
@@ -50,7 +53,7 @@ record Taken (kind : Kind) (x : Mode) (allowance : ℕ) (xs : List Float) : Type
   none : rowRefusal x ≡ 0
   long : x .n - x .m < length xs
   given : Given kind x allowance
-  is : dlmfOf kind x allowance xs .after ≡ lessened (rowIn kind x allowance blankSlices .after .values) (x .c ⊗ x .c) (x .n - x .m + 1) xs
+  is : dlmfOf kind x allowance xs .after ≡ lessened (rowIn kind x allowance blankSlices .after .values) (csOf kind x) (x .n - x .m + 1) xs
 
 taken : (kind : Kind) (x : Mode) (allowance : ℕ) (xs : List Float) → dlmfOf kind x allowance xs .number ≡ 0 → Taken kind x allowance xs
 unfolding dlmfOf dlmfIn
@@ -68,6 +71,12 @@ taken kind x allowance xs h = go (eqb (rowRefusal x) 0) refl (leb (length xs) (x
     go true he true hs t ht = let w : _≡_ {A = ℕ} 9 0 = rw (he, hs) at h in absurd (omega arith)
     go false he s hs t ht = let w : rowRefusal x ≡ 0 = rw he at h in absurd (eqb-false (rowRefusal x) 0 he w)
 
+-- the product with 1 or −1 is exact, and to take −c × c away is to add c × c
+by-kind : (kind : Kind) (value square : Float) → T (fits binary64 square) → value ⊖ square ⊗ signOf kind ≡ eigenvalue kind value square
+unfolding signOf
+by-kind Prolate value square f = ap (λ (y : Float). value ⊖ y) (times-one square f)
+by-kind Oblate value square f = ap (λ (y : Float). value ⊖ y) (times-minus-one square f) ∙ less-negative value square
+
 pub demand-3-dlmf : Demand3Dlmf
 demand-3-dlmf kind x allowance xs l h t =
     let g = taken kind x allowance xs h in
@@ -76,8 +85,9 @@ demand-3-dlmf kind x allowance xs l h t =
       ap (λ a. a .number) is,
       λ j hj.
           rw (g .is, is, g .given .row-in-is blankSlices)
-          (lessened-at _ (x .c ⊗ x .c) xs (x .n - x .m + 1) j (omega arith) (omega (arith, g .long))
-          ∙ ap (λ (v : Float). v ⊖ x .c ⊗ x .c)
+          (lessened-at _ (csOf kind x) xs (x .n - x .m + 1) j (omega arith) (omega (arith, g .long))
+          ∙ ap (λ (v : Float). v ⊖ csOf kind x)
           (ap (λ (b : Bracket). b .value) (handed-at x f blankSlices (long-all x blankSlices (blank-room x (accepted x (g .none)))) j hj)
-          ∙ sym (ap (λ (b : Bracket). b .value) (handed-at x f l (long-all x l t) j hj)))),
+          ∙ sym (ap (λ (b : Bracket). b .value) (handed-at x f l (long-all x l t) j hj)))
+          ∙ by-kind kind _ (x .c ⊗ x .c) (mul-fits binary64 (x .c) (x .c))),
     )

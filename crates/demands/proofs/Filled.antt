@@ -10,14 +10,14 @@ use lib.Dec.{eqb, leb}
 use lib.Ieee.{nan, lt}
 use lib.ListN.{length, getD, set, length-set, length-replicate}
 use lib.Seq.{getD-set-same, getD-set-other}
-use Rattle.arith.specs.Double.{_⊗_, #0, #1e-10}
+use Rattle.arith.specs.Double.{#0, #1e-10}
 use Rattle.arith.proofs.Flags.{not-left, neither}
 use Rattle.segv.specs.declared.bisection.Bracket.{Bracket}
 use Rattle.segv.specs.Families.{Families, bothFamilies, eitherStopped}
 use Rattle.segv.specs.Row.{Slices, flag, written, writtenRow, answer, modeAt, segvRow}
 use Rattle.modes.specs.declared.checking.Mode.{Mode}
 use Rattle.modes.specs.declared.checking.Kind.{Kind}
-use Rattle.modes.specs.Refusals.{rowRefusal, signOf, entriesOf}
+use Rattle.modes.specs.Refusals.{rowRefusal, csOf, entriesOf}
 use Rattle.modes.specs.Rows.{rowOf, rowIn, tooShort, zeroAt, blankSlices}
 use Rattle.demands.specs.Demand3.{handed}
 use Rattle.modes.proofs.Laws.{Accepted, accepted, long-enough}
@@ -77,7 +77,7 @@ blank-room x r =
 -- ---- an accepted row
 module _ (kind : Kind) (x : Mode) (allowance : ℕ) where
   abbrev pub both : Families
-  both = bothFamilies (x .m) (x .n) (x .c ⊗ x .c ⊗ signOf kind) (entriesOf x) allowance
+  both = bothFamilies (x .m) (x .n) (csOf kind x) (entriesOf x) allowance
 
   -- the bracket of the mode at offset j
   abbrev pub bracketAt : ℕ → Bracket

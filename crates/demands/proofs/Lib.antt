@@ -8,4 +8,5 @@ pub mod Demand3Angular
 pub mod RowLaws
 pub mod Edges
 pub mod Card2
+pub mod Card4
 pub mod Streams

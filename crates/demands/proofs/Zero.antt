@@ -12,7 +12,7 @@ use lib.Ieee.Back.{round-whole}
 use lib.Ieee.Scale.{round-same}
 use lib.Ieee.Exact.{HasValue}
 use lib.Ieee.Fits.{down-pos}
-use Rattle.arith.specs.Double.{_⊖_, _⊗_, dbl, #0, #1e-10}
+use Rattle.arith.specs.Double.{_⊕_, _⊖_, _⊗_, dbl, #0, #1e-10}
 use Rattle.arith.proofs.Flags.{not-taken, not-left}
 use Rattle.modes.specs.Refusals.{noParameter}
 
@@ -68,7 +68,7 @@ zero-parameter nan h = not-taken h
 zero-parameter (inf s) h = not-taken h
 zero-parameter (fin s m e) h = below-nothing s (m * up e) _ _ (zero-size s m e h) (nothing e)
 
--- a zero with the sign t, added to a whole number: +0 added, and +0 taken away
+-- a zero with the sign t, added to a whole number
 plus-zero : (k : ℕ) (t : Bool) → k ≤ 2 ^ 53 → add binary64 (dbl k) (fin t 0 (pos 0)) ≡ dbl k
 unfolding ofInt add sum
 plus-zero k t h = whole (round binary64 false k 1) t (round-whole binary64 false k h)
@@ -95,3 +95,7 @@ plus-zero k t h = whole (round binary64 false k 1) t (round-whole binary64 false
 pub less-zero : (k : ℕ) → k ≤ 2 ^ 53 → dbl k ⊖ #0 ≡ dbl k
 unfolding sub neg ofBits
 less-zero k h = plus-zero k true h
+
+pub more-zero : (k : ℕ) → k ≤ 2 ^ 53 → dbl k ⊕ #0 ≡ dbl k
+unfolding ofBits
+more-zero k h = plus-zero k false h

@@ -6,14 +6,15 @@ use mathlib.Core.List.{List}
 use lib.Dec.{eqb}
 use lib.Ieee.{Float, lt, le, neg}
 use lib.ListN.{getD}
-use Rattle.arith.specs.Double.{_⊖_, _⊗_, at, #0, #1, #1e-10}
+use Rattle.arith.specs.Double.{_⊕_, _⊖_, _⊗_, at, #0, #1, #1e-10}
 use Rattle.segv.specs.declared.bisection.Bracket.{Bracket}
 use Rattle.segv.specs.Row.{Slices}
 use Rattle.segv.specs.Sound.{SoundIn}
 use Rattle.modes.specs.declared.answers.Answer.the-variants.{Pair}
 use Rattle.modes.specs.declared.checking.Kind.{Kind}
+use Rattle.modes.specs.declared.checking.Kind.the-variants.{Prolate, Oblate}
 use Rattle.modes.specs.declared.checking.Mode.{Mode}
-use Rattle.modes.specs.Refusals.{signOf, entriesOf}
+use Rattle.modes.specs.Refusals.{csOf, entriesOf}
 use Rattle.modes.specs.Rows.{rowOf, tooShort, dlmfOf}
 use Rattle.modes.specs.Angular.{angularOf}
 
@@ -38,16 +39,21 @@ Demand3Rows =
     → rowOf kind x allowance l .number ≡ 0
     → lt (x .c) #1e-10 ≡ false
     → (j : ℕ) → j ≤ x .n - x .m
-    → SoundIn (x .m) (j % 2) (x .c ⊗ x .c ⊗ signOf kind) (entriesOf x) allowance (j / 2 + 1) (handed (rowOf kind x allowance l .after) j)
+    → SoundIn (x .m) (j % 2) (csOf kind x) (entriesOf x) allowance (j / 2 + 1) (handed (rowOf kind x allowance l .after) j)
 
--- DLMF rows start from the same values: where one is accepted, so is the row with the same kind, m, n, c and allowance, and each value is the row's less c × c.
+-- Card 4's rule, with the square of c: DLMF's eigenvalue is Flammer's value less the square for prolate modes, and plus it for oblate ones
+abbrev pub eigenvalue : Kind → Float → Float → Float
+eigenvalue Prolate value square = value ⊖ square
+eigenvalue Oblate value square = value ⊕ square
+
+-- DLMF rows start from the same values: where one is accepted, so is the row with the same kind, m, n, c and allowance, and each value is the row's by Card 4's rule, with two roundings.
 abbrev pub Demand3Dlmf : Type 0
 Demand3Dlmf =
     (kind : Kind) (x : Mode) (allowance : ℕ) (xs : List Float) (l : Slices)
     → dlmfOf kind x allowance xs .number ≡ 0
     → tooShort x l ≡ false
     → (rowOf kind x allowance l .number ≡ 0)
-    × ((j : ℕ) → j ≤ x .n - x .m → at (dlmfOf kind x allowance xs .after) j ≡ at (rowOf kind x allowance l .after .values) j ⊖ x .c ⊗ x .c)
+    × ((j : ℕ) → j ≤ x .n - x .m → at (dlmfOf kind x allowance xs .after) j ≡ eigenvalue kind (at (rowOf kind x allowance l .after .values) j) (x .c ⊗ x .c))
 
 -- For every accepted angular call with x above 0 and at most 1, whatever its c and cv, an accepted one alike but for −x gives the same pair bit for bit except one exact change of sign: on the value
 -- if n − m is odd, on the derivative if even, NaN aside. (There is one NaN here, and it is its own negation, so that this is an equation.)

@@ -3,4 +3,5 @@ pub mod Demand3
 pub mod RowLaws
 pub mod Edges
 pub mod Card2
+pub mod Card4
 pub mod Streams

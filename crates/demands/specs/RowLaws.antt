@@ -9,7 +9,7 @@ use lib.ListN.{getD}
 use Rattle.segv.specs.Row.{Slices, flag}
 use Rattle.modes.specs.declared.checking.Kind.{Kind}
 use Rattle.modes.specs.declared.checking.Mode.{Mode}
-use Rattle.modes.specs.Rows.{rowOf, dlmfOf}
+use Rattle.modes.specs.Rows.{rowOf, tooShort, dlmfOf}
 use Rattle.demands.specs.Demand3.{handed}
 
 -- DLMF 30.3: at parameter zero the eigenvalue of degree n is n(n + 1), whatever the order
@@ -33,14 +33,15 @@ FlagsHanded =
     → (j : ℕ) → j ≤ x .n - x .m
     → let after = rowOf kind x allowance l .after in getD (after .substituted) j 0 ≡ flag (handed after j .substituted)
 
--- at c = 0, of either sign, an accepted DLMF row hands out DLMF's values as doubles
+-- at c = 0, of either sign, nothing moves: an accepted DLMF row hands out the row's own values, and these are DLMF's as doubles
 abbrev pub DlmfZeroParameter : Type 0
 DlmfZeroParameter =
-    (kind : Kind) (x : Mode) (allowance : ℕ) (xs : List Float)
+    (kind : Kind) (x : Mode) (allowance : ℕ) (xs : List Float) (l : Slices)
     → dlmfOf kind x allowance xs .number ≡ 0
+    → tooShort x l ≡ false
     → eq (x .c) #0 ≡ true
     → (j : ℕ) → j ≤ x .n - x .m
-    → at (dlmfOf kind x allowance xs .after) j ≡ dbl (dlmfAtZero (x .m + j))
+    → let v = at (rowOf kind x allowance l .after .values) j in (at (dlmfOf kind x allowance xs .after) j ≡ v) × (v ≡ dbl (dlmfAtZero (x .m + j)))
 
 -- more allowance never changes an accepted row, its flags included
 abbrev pub MoreAllowance : Type 0
