@@ -2,17 +2,17 @@
 """Asks the record program `spheroidal` in plain words and prints tables.
 
     spheroidal_client.py row oblate m=0 n=4 c=2.5
-    spheroidal_client.py dlmf prolate m=1 n=6 c=10
+    spheroidal_client.py dlmf oblate m=1 n=6 c=10
     spheroidal_client.py angular oblate m=0 n=4 c=2.5 x=-1:1:9
     spheroidal_client.py radial oblate m=0 n=2 c=1
     spheroidal_client.py first oblate m=0 n=2 c=1 x=0:5:11
 
-m is the order, n the degree, c the size parameter. dlmf is the row with each value less c * c: for
-oblate modes this is not DLMF's eigenvalue, which is the value plus c * c. x is one number or
-start:stop:count. radial is both oblate radial functions on the disc, x=0, which may be left out; first
-is the first of them alone, at any finite x from zero on, with c x up to 200. cv is the characteristic
-value: where it is left out, it is taken from the mode's row. allowance is the most steps for each value
-of a row, 65535 if left out. A number is decimal, or 0x and the 16 digits of a double's bits.
+m is the order, n the degree, c the size parameter. dlmf is the row as DLMF has it: each value less c * c
+for prolate modes, plus c * c for oblate ones. x is one number or start:stop:count. radial is both oblate
+radial functions on the disc, x=0, which may be left out; first is the first of them alone, at any finite
+x from zero on, with c x up to 200. cv is the characteristic value: where it is left out, it is taken from
+the mode's row. allowance is the most steps for each value of a row, 65535 if left out. A number is
+decimal, or 0x and the 16 digits of a double's bits.
 
 In a row, zero pivot says whether 1e-30 was put in for a pivot of zero while the value was bisected.
 That is no error, and common at small c.
@@ -85,6 +85,8 @@ REFUSALS = {
 }
 # How many words follow the record's number on a line.
 WORDS = {"V": 5, "Z": 2, "D": 2, "A": 4, "F": 6, "G": 4, "R": 1}
+# An oblate mode whose eigenvalue is c * c; a program from before that rule answers -c * c.
+PROBE = {"m": 0, "n": 0, "c": 1e-11, "allowance": 0}
 # What the last word of a line Z means.
 ZERO_PIVOT = {"0": "no", "1": "yes"}
 MADE_BY = "The record program is made by: ./build"
@@ -206,7 +208,15 @@ def joined(program, lines):
 
 def ask_row(program, what, kind, fields):
     """The lines of a row in either form."""
-    [lines] = ask(program, [record(OPERATIONS[what, kind], fields)])
+    operation = OPERATIONS[what, kind]
+    records = [record(operation, fields)]
+    if (what, kind) == ("dlmf", "oblate"):
+        records.append(record(operation, PROBE))
+    lines, *probes = ask(program, records)
+    for [[letter, *words]] in probes:
+        if letter != "D" or double(words[-1]) <= 0:
+            said = f"{program} does not add c * c to oblate values, as DLMF's form asks"
+            raise Misunderstood(f"{said}: it may be older than this client\n{MADE_BY}")
     if lines[0][0] == "R":
         raise Refused(int(lines[0][1]), what)
     return lines

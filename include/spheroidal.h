@@ -57,10 +57,10 @@
  * The version. MAJOR moves where a correct program may have to change or gets other answers, MINOR
  * where something is added, PATCH where neither: speed, memory, comments, how it is built.
  */
-#define SPHEROIDAL_VERSION_MAJOR 3
+#define SPHEROIDAL_VERSION_MAJOR 4
 #define SPHEROIDAL_VERSION_MINOR 0
-#define SPHEROIDAL_VERSION_PATCH 1
-#define SPHEROIDAL_VERSION "3.0.1"
+#define SPHEROIDAL_VERSION_PATCH 0
+#define SPHEROIDAL_VERSION "4.0.0"
 
 /*
  * What a function answers. 1 to 3 are refusals of the record program and never come from here. Let
@@ -193,8 +193,15 @@ uint8_t spheroidal_oblate_row(uint16_t m, uint16_t n, double c, uint16_t allowan
                               uint8_t *substituted, size_t substituted_length);
 
 /*
- * The row's values in DLMF's form: each less c * c. Prolate ones are DLMF's lambda; oblate ones are
- * not, since that is the row's value plus c * c.
+ * The row's values in DLMF's form, its lambda (30.2.1): the value less c * c for prolate modes, with
+ * gamma^2 = c^2, and the value plus c * c for oblate ones, with gamma^2 = -c^2; where c is below 1e-10
+ * too. Product and sum are rounded. At c = 0 they are the row's values.
+ *
+ * Before 4.0 the oblate ones were each less c * c, which is not DLMF's: a program that adds 2 * c * c to
+ * mend them is to leave that out.
+ *
+ * Oblate values and c * c cancel where c is large, so that of these up to 3 digits are lost
+ * (docs/ACCURACY.md).
  *
  * Writes n - m + 1 places. Refusals: 4, 5, 6, 9, 10, as for the row with the same allowance.
  */

@@ -25,7 +25,7 @@ use std::error::Error;
 use std::fmt;
 
 /// The version, that of the header; which of its numbers moves when is said there.
-pub const VERSION: &str = "3.0.1";
+pub const VERSION: &str = "4.0.0";
 
 /// The largest m.
 pub const LARGEST_ORDER: u16 = 199;
@@ -225,8 +225,8 @@ pub fn row_into(
     })
 }
 
-/// The row's values in DLMF's form: each less c · c. Prolate ones are DLMF's eigenvalues; oblate ones
-/// are not, for which DLMF has the value plus c · c (docs/FUNCTIONS.md).
+/// The row's values in DLMF's form, its eigenvalues: the value less c · c for prolate modes, the value
+/// plus c · c for oblate ones. Before 4.0 the oblate ones were each less c · c, which is not DLMF's.
 pub fn dlmf_row(kind: Kind, mode: Mode, allowance: u16) -> Result<Vec<f64>, Refusal> {
     let mut values = vec![0.0; places(mode)];
     dlmf_row_into(kind, mode, allowance, &mut values)?;

@@ -7,7 +7,7 @@
 
 #include "spheroidal.h"
 
-#if SPHEROIDAL_VERSION_MAJOR * 100 + SPHEROIDAL_VERSION_MINOR < 300
+#if SPHEROIDAL_VERSION_MAJOR * 100 + SPHEROIDAL_VERSION_MINOR < 400
 #error "this header is too old"
 #endif
 

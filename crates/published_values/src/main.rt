@@ -1,5 +1,5 @@
-// A test program: holds published values of Flammer and of Zhang and Jin against the library. Standard
-// input has two records for each value: what is asked of the library, and one that carries the
+// A test program: holds published values of Flammer, of Zhang and Jin and of DLMF against the library.
+// Standard input has two records for each value: what is asked of the library, and one that carries the
 // published value as its c, how far off an answer may be as its cv, and as its operation which of the
 // answer's numbers is meant, from 0 on. `tests/published/run` writes it.
 ghost use Prim.Native.Nat.{_≤_};
@@ -13,15 +13,22 @@ use modes::Operation;
 use records::Next;
 use records::Record;
 
-// The characteristic value of the mode of degree n, or 0 where the row is refused.
-fn value_of(kind: Kind, mode: Mode) -> f64 {
+// The place of degree n in a row of the mode, or 0 where there is none.
+fn place_of(mode: Mode) -> usize
+    ensures { λ r. ⌜ r ≤ 199 ⌝ }
+{
     if mode.n < mode.m {
-        return 0.0;
+        return 0;
     }
     let offset = (mode.n - mode.m) as usize;
     if 199 < offset {
-        return 0.0;
+        return 0;
     }
+    offset
+}
+
+// The characteristic value of the mode of degree n, or 0 where the row is refused.
+fn value_of(kind: Kind, mode: Mode) -> f64 {
     let mut values = [0.0; 200];
     let mut steps: [u16; 200] = [0; 200];
     let mut lowers = [0.0; 200];
@@ -37,7 +44,14 @@ fn value_of(kind: Kind, mode: Mode) -> f64 {
         &mut uppers,
         &mut substituted,
     );
-    values[offset]
+    values[place_of(mode)]
+}
+
+// DLMF's eigenvalue of the mode of degree n, or 0 where the row is refused.
+fn eigenvalue_of(kind: Kind, mode: Mode) -> f64 {
+    let mut values = [0.0; 200];
+    modes::dlmf_row(kind, mode, 65535, &mut values);
+    values[place_of(mode)]
 }
 
 // One of the numbers of an answer, or NaN where it has none.
@@ -79,7 +93,7 @@ fn answer_to(request: Record, which: u8) -> f64 {
         }
         Operation::Radial => number_of(modes::radial(mode, request.cv, request.x), which),
         Operation::FirstKind => number_of(modes::first_kind(mode, request.cv, request.x), which),
-        Operation::DlmfRow(_) => 0.0 / 0.0,
+        Operation::DlmfRow(kind) => eigenvalue_of(kind, mode),
         Operation::Refused(_) => 0.0 / 0.0,
     }
 }

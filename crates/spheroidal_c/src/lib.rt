@@ -165,7 +165,7 @@ pub extern "C" fn spheroidal_oblate_row(
     )
 }
 
-// The row in DLMF's form: each value less c * c.
+// The row in DLMF's form: each value less c * c where it is prolate, plus c * c where it is oblate.
 #[no_mangle]
 pub extern "C" fn spheroidal_prolate_dlmf_row(
     m: u16,

@@ -196,9 +196,9 @@ pub fn record_lines(build: Build, number: usize, record: &Record) -> String {
     }
 }
 
-/// Writes the lines of one mode of a row from the record's number, the mode, the record's c, the
-/// value by `segv` and what the reading found.
-type LinesOfMode = fn(usize, u16, f64, f64, &reading::RowValue) -> String;
+/// Writes the lines of one mode of a row from the record's number, the mode, the kind, the record's
+/// c, the value by `segv` and what the reading found.
+type LinesOfMode = fn(usize, u16, Kind, f64, f64, &reading::RowValue) -> String;
 
 fn row_lines(number: usize, kind: Kind, record: &Record, lines_of_mode: LinesOfMode) -> String {
     let Record {
@@ -213,7 +213,7 @@ fn row_lines(number: usize, kind: Kind, record: &Record, lines_of_mode: LinesOfM
         if !same(value, read.value) {
             disagreements += &format!("X {number} {mode} {} {}\n", hex(value), hex(read.value));
         }
-        lines += &lines_of_mode(number, mode, c, value, read);
+        lines += &lines_of_mode(number, mode, kind, c, value, read);
     }
     disagreements + &lines
 }
@@ -221,6 +221,7 @@ fn row_lines(number: usize, kind: Kind, record: &Record, lines_of_mode: LinesOfM
 fn v_and_z_lines(
     number: usize,
     mode: u16,
+    _kind: Kind,
     _c: f64,
     value: f64,
     read: &reading::RowValue,
@@ -230,8 +231,16 @@ fn v_and_z_lines(
     format!("V {number} {mode} {steps} {value} {lower} {upper}\nZ {number} {mode} {substituted}\n")
 }
 
-fn d_line(number: usize, mode: u16, c: f64, value: f64, _read: &reading::RowValue) -> String {
-    format!("D {number} {mode} {}\n", hex(value - c * c))
+fn d_line(
+    number: usize,
+    mode: u16,
+    kind: Kind,
+    c: f64,
+    value: f64,
+    _read: &reading::RowValue,
+) -> String {
+    let eigenvalue = reading::eigenvalue(kind, value, c);
+    format!("D {number} {mode} {}\n", hex(eigenvalue))
 }
 
 fn mode_line(letter: char, number: usize, m: u16, n: u16, values: &[f64]) -> String {

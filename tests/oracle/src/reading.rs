@@ -136,6 +136,16 @@ pub fn row(
     Ok((0..=usize::from(n - m)).map(at_offset).collect())
 }
 
+/// A value in DLMF's form, by Card 4. DLMF's eigenvalue plus γ² is the value, and γ² is c² for
+/// prolate modes and −c² for oblate ones; the square is rounded, and so is the result.
+pub fn eigenvalue(kind: Kind, value: f64, c: f64) -> f64 {
+    let square = c * c;
+    match kind {
+        Kind::Prolate => value - square,
+        Kind::Oblate => value + square,
+    }
+}
+
 /// The least allowance with which a row is not refused 10, for choosing records at that edge.
 pub fn needed_allowance(kind: Kind, m: u16, n: u16, c: f64) -> u16 {
     if c < ZERO_PARAMETER {
