@@ -29,6 +29,19 @@ def matrix(sign, m, parity, c, places):
     return a, b, g
 
 
+def dlmf_matrix(sign, m, parity, c, places):
+    """The same of the matrix of DLMF 30.16, whose eigenvalues are DLMF's, with gamma squared for c
+    squared with its sign."""
+    square = sign * Decimal(c) * Decimal(c)
+    a, b, g = [], [], []
+    for k in range(parity, 2 * places + parity, 2):
+        s = m + k
+        a.append(-square * (2 * m + k + 1) * (2 * m + k + 2) / ((2 * s + 3) * (2 * s + 5)))
+        b.append(s * (s + 1) - 2 * square * (s * (s + 1) - 1 + m * m) / ((2 * s - 1) * (2 * s + 3)))
+        g.append(-square * (k - 1) * k / ((2 * s - 3) * (2 * s - 1)))
+    return a, b, g
+
+
 def pivots(a, b, g, value):
     """The pivots from the first place on; as many are below zero as eigenvalues are below the value."""
     found = [b[0] - value]
@@ -88,6 +101,30 @@ def legendre(m, x, count, precision):
     return values, slopes
 
 
+def nearest_eigenvalue(a, b, g, weight, start):
+    """The eigenvalue nearest to the start, to all but 20 of the digits, and its vector."""
+    value, limit = Decimal(start), Decimal(10) ** (20 - getcontext().prec)
+    for _ in range(20):
+        last = value
+        value, vector = refined(a, b, g, weight, last)
+        if abs(value - last) <= limit * max(1, abs(value)):
+            return value, vector
+    raise ArithmeticError(f"no eigenvalue is found near {start}")
+
+
+def places_of(n, m, c):
+    """How many places of the matrix decide the eigenvalue and the vector."""
+    return (n - m) // 2 + int(c) + 60
+
+
+def dlmf_eigenvalue(kind, m, n, c, start):
+    """DLMF's eigenvalue nearest to the start, from DLMF's own matrix."""
+    set_precision(n, c)
+    parity, places = (n - m) % 2, places_of(n, m, c)
+    a, b, g = dlmf_matrix(SIGNS[kind], m, parity, c, places)
+    return nearest_eigenvalue(a, b, g, weights(m, parity, places), start)[0]
+
+
 class Mode:
     """One mode. `start` is its characteristic value, right to some digits: the nearest eigenvalue is
     taken, and that it is the mode's is tested by the count of eigenvalues below it."""
@@ -96,17 +133,10 @@ class Mode:
         set_precision(n, c)
         self.kind, self.m, self.n, self.c = kind, m, n, c
         self.parity, self.index = (n - m) % 2, (n - m) // 2
-        places = self.index + int(c) + 60
+        places = places_of(n, m, c)
         a, b, g = matrix(SIGNS[kind], m, self.parity, c, places)
         self.weight = weights(m, self.parity, places)
-        value, limit = Decimal(start), Decimal(10) ** (20 - getcontext().prec)
-        for _ in range(20):
-            last = value
-            value, vector = refined(a, b, g, self.weight, last)
-            if abs(value - last) <= limit * max(1, abs(value)):
-                break
-        else:
-            raise ArithmeticError(f"no eigenvalue is found for {self.kind} m {m} n {n} c {c}")
+        value, vector = nearest_eigenvalue(a, b, g, self.weight, start)
         near = max(1, abs(value)) * Decimal("1e-25")
         counts = [sum(p < 0 for p in pivots(a, b, g, value + side)) for side in (-near, near)]
         if counts != [self.index, self.index + 1]:
