@@ -200,8 +200,7 @@ uint8_t spheroidal_oblate_row(uint16_t m, uint16_t n, double c, uint16_t allowan
  * Before 4.0 the oblate ones were each less c * c, which is not DLMF's: a program that adds 2 * c * c to
  * mend them is to leave that out.
  *
- * Oblate values and c * c cancel where c is large, so that of these up to 3 digits are lost
- * (docs/ACCURACY.md).
+ * Oblate values and c * c cancel where c is large: at c = 280, 12 digits are left (docs/ACCURACY.md).
  *
  * Writes n - m + 1 places. Refusals: 4, 5, 6, 9, 10, as for the row with the same allowance.
  */
