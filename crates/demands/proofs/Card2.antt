@@ -6,12 +6,12 @@ use lib.Dec.{eqb}
 use lib.Ieee.{Float, eq}
 use Rattle.arith.specs.Double.{bits, #0}
 use Prim.Native.Nat.{ℕ}
-use Rattle.modes.specs.declared.answers.Answer.{Answer}
+use Rattle.requests.specs.declared.answers.Answer.{Answer}
 use Rattle.radial.proofs.Laws.{first-at-zero}
-use Rattle.modes.specs.declared.checking.Mode.{Mode}
+use Rattle.requests.specs.declared.checking.Mode.{Mode}
 use Rattle.modes.specs.Radial.{radialRefusal, radialKinds, radialOf}
 use Rattle.modes.specs.FirstKind.{firstRefusal, pairOrRefusal, firstOf}
-use Rattle.modes.proofs.Laws.{far-zero}
+use Rattle.requests.proofs.Laws.{far-zero}
 use Rattle.demands.specs.Card2.{firstPair, FirstKindOnDisc, FirstEdge, firstEdges, offDisc}
 use Rattle.demands.proofs.Zero.{zero-parameter}
 use Rattle.demands.proofs.Computed.{computed}

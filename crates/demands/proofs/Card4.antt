@@ -3,8 +3,8 @@ use mathlib.Core.Path.{_≡_, refl}
 use mathlib.Core.List.{[], _∷_, map}
 use Prim.Native.Nat.{ℕ}
 use Rattle.arith.specs.Double.{bitsOf, at, #0}
-use Rattle.modes.specs.declared.checking.Kind.{Kind}
-use Rattle.modes.specs.declared.checking.Mode.{Mode}
+use Rattle.requests.specs.declared.checking.Kind.{Kind}
+use Rattle.requests.specs.declared.checking.Mode.{Mode}
 use Rattle.modes.specs.Rows.{dlmfOf}
 use Rattle.demands.specs.Card4.{eigenvalues}
 use Rattle.demands.proofs.Computed.{computed}

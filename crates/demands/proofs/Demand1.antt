@@ -11,14 +11,14 @@ use Rattle.arith.specs.Double.{#1e-10}
 use Rattle.arith.proofs.Flags.{not-taken}
 use Rattle.segv.specs.Families.{Families, eitherStopped}
 use Rattle.segv.specs.Row.{Slices, Numbered, answer, segvRow}
-use Rattle.modes.specs.declared.answers.SliceAnswer.the-variants.{Refused}
-use Rattle.modes.specs.declared.checking.Kind.{Kind}
-use Rattle.modes.specs.declared.checking.Mode.{Mode}
-use Rattle.modes.specs.Answers.{given}
-use Rattle.modes.specs.Refusals.{rowRefusal, modeRefusal, notFinite}
+use Rattle.requests.specs.declared.answers.SliceAnswer.the-variants.{Refused}
+use Rattle.requests.specs.declared.checking.Kind.{Kind}
+use Rattle.requests.specs.declared.checking.Mode.{Mode}
+use Rattle.requests.specs.Answers.{given}
+use Rattle.requests.specs.Refusals.{rowRefusal, modeRefusal, notFinite}
 use Rattle.modes.specs.Rows.{tooShort, rowIn, rowOf, dlmfIn, dlmfOf}
 use Rattle.modes.specs.Coefficients.{coefficientsOf}
-use Rattle.modes.proofs.Given.{given-refused}
+use Rattle.requests.proofs.Given.{given-refused}
 use Rattle.demands.specs.Demand1.{Demand1Rows, Demand1Dlmf, Demand1Coefficients}
 
 module _ {A : Type 0} (places : A) where

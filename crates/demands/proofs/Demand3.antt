@@ -15,13 +15,13 @@ use Rattle.arith.specs.Double.{_⊖_, _⊗_, at}
 use Rattle.arith.proofs.Units.{times-one, times-minus-one, less-negative}
 use Rattle.segv.specs.declared.bisection.Bracket.{Bracket}
 use Rattle.segv.proofs.Sound.{row-sound}
-use Rattle.modes.specs.declared.checking.Mode.{Mode}
-use Rattle.modes.specs.declared.checking.Kind.{Kind}
-use Rattle.modes.specs.declared.checking.Kind.the-variants.{Prolate, Oblate}
-use Rattle.modes.specs.Refusals.{rowRefusal, signOf, csOf, entriesOf}
+use Rattle.requests.specs.declared.checking.Mode.{Mode}
+use Rattle.requests.specs.declared.checking.Kind.{Kind}
+use Rattle.requests.specs.declared.checking.Kind.the-variants.{Prolate, Oblate}
+use Rattle.requests.specs.Refusals.{rowRefusal, signOf, csOf, entriesOf}
 use Rattle.modes.specs.Rows.{rowIn, blankSlices, lessened, dlmfIn, dlmfOf}
 use Rattle.demands.specs.Demand3.{eigenvalue, Demand3Rows, Demand3Dlmf}
-use Rattle.modes.proofs.Laws.{accepted}
+use Rattle.requests.proofs.Laws.{accepted}
 use Rattle.demands.proofs.Filled.{bracketAt, Given, given-in, filled, filled-of, long-all, blank-room, handed-at}
 
 pub demand-3-rows : Demand3Rows

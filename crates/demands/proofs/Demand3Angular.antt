@@ -7,10 +7,10 @@ use lib.Dec.{eqb}
 use lib.Ieee.{Float, nan, inf, fin, neg}
 use Rattle.arith.specs.Choice.{abs}
 use Rattle.angular.proofs.Mirror.{mirror}
-use Rattle.modes.specs.declared.answers.Answer.{Answer}
-use Rattle.modes.specs.declared.answers.Answer.the-variants.{Pair, Quadruple, Refused}
-use Rattle.modes.specs.declared.checking.Mode.{Mode}
-use Rattle.modes.specs.Refusals.{signOf}
+use Rattle.requests.specs.declared.answers.Answer.{Answer}
+use Rattle.requests.specs.declared.answers.Answer.the-variants.{Pair, Quadruple, Refused}
+use Rattle.requests.specs.declared.checking.Mode.{Mode}
+use Rattle.requests.specs.Refusals.{signOf}
 use Rattle.modes.specs.Angular.{outside, angularRefusal, angularPair, angularOf}
 use Rattle.demands.specs.Demand3.{Demand3Angular}
 

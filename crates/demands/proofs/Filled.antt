@@ -15,12 +15,13 @@ use Rattle.arith.proofs.Flags.{not-left, neither}
 use Rattle.segv.specs.declared.bisection.Bracket.{Bracket}
 use Rattle.segv.specs.Families.{Families, bothFamilies, eitherStopped}
 use Rattle.segv.specs.Row.{Slices, flag, written, writtenRow, answer, modeAt, segvRow}
-use Rattle.modes.specs.declared.checking.Mode.{Mode}
-use Rattle.modes.specs.declared.checking.Kind.{Kind}
-use Rattle.modes.specs.Refusals.{rowRefusal, csOf, entriesOf}
+use Rattle.requests.specs.declared.checking.Mode.{Mode}
+use Rattle.requests.specs.declared.checking.Kind.{Kind}
+use Rattle.requests.specs.Refusals.{rowRefusal, csOf, entriesOf}
 use Rattle.modes.specs.Rows.{rowOf, rowIn, tooShort, zeroAt, blankSlices}
 use Rattle.demands.specs.Demand3.{handed}
-use Rattle.modes.proofs.Laws.{Accepted, accepted, long-enough}
+use Rattle.requests.proofs.Laws.{Accepted, accepted}
+use Rattle.modes.proofs.Laws.{long-enough}
 
 -- ---- what is written
 module _ {A : Type 0} (field : Bracket → A) (bracket : ℕ → Bracket) (xs : List A) (d : A) where

@@ -11,10 +11,10 @@ use Rattle.segv.specs.declared.bisection.Bracket.{Bracket}
 use Rattle.segv.specs.Families.{eitherStopped}
 use Rattle.segv.specs.Row.{Slices, flag, writtenRow}
 use Rattle.segv.proofs.Allowance.{families-more}
-use Rattle.modes.specs.declared.checking.Mode.{Mode}
-use Rattle.modes.specs.declared.checking.Kind.{Kind}
-use Rattle.modes.specs.declared.checking.Kind.the-variants.{Prolate, Oblate}
-use Rattle.modes.specs.Refusals.{csOf, entriesOf}
+use Rattle.requests.specs.declared.checking.Mode.{Mode}
+use Rattle.requests.specs.declared.checking.Kind.{Kind}
+use Rattle.requests.specs.declared.checking.Kind.the-variants.{Prolate, Oblate}
+use Rattle.requests.specs.Refusals.{csOf, entriesOf}
 use Rattle.modes.specs.Rows.{rowOf, rowIn, zeroAt}
 use Rattle.modes.proofs.Laws.{dlmf-mode}
 use Rattle.demands.specs.Demand3.{eigenvalue}

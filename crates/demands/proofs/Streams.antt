@@ -5,7 +5,7 @@ use Prim.Native.Nat.{ℕ}
 use Prim.Native.String.{String}
 use Rattle.records.specs.Record.{numberAt, nextAt}
 use Rattle.records.specs.Text.{ascii, digit, decimalIn, hexadecimal}
-use Rattle.modes.specs.Operations.{operationOf}
+use Rattle.requests.specs.Operations.{operationOf}
 use Rattle.stream.specs.Response.{rowLines, dLines, rowText, dlmfText, answerText, textOf, responseTo}
 use Rattle.stream.specs.Stream.{linesIn, linesOf}
 use Rattle.stream.specs.Inside.Calls.{Answered, answeredIn, answered}

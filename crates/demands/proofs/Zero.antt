@@ -14,7 +14,7 @@ use lib.Ieee.Exact.{HasValue}
 use lib.Ieee.Fits.{down-pos}
 use Rattle.arith.specs.Double.{_⊕_, _⊖_, _⊗_, dbl, #0, #1e-10}
 use Rattle.arith.proofs.Flags.{not-taken, not-left}
-use Rattle.modes.specs.Refusals.{noParameter}
+use Rattle.requests.specs.Refusals.{noParameter}
 
 -- the size of +0 over any divisor
 nothing : (e : ℤ) → 0 * 1 * down e ≡ 0

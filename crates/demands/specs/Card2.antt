@@ -5,9 +5,9 @@ use mathlib.Core.Bool.{true}
 use mathlib.Core.List.{List, [], _∷_}
 use lib.Ieee.{Float, eq}
 use Rattle.arith.specs.Double.{bits, #0}
-use Rattle.modes.specs.declared.answers.Answer.{Answer}
-use Rattle.modes.specs.declared.answers.Answer.the-variants.{Pair, Quadruple, Refused}
-use Rattle.modes.specs.declared.checking.Mode.{Mode}
+use Rattle.requests.specs.declared.answers.Answer.{Answer}
+use Rattle.requests.specs.declared.answers.Answer.the-variants.{Pair, Quadruple, Refused}
+use Rattle.requests.specs.declared.checking.Mode.{Mode}
 use Rattle.modes.specs.Radial.{radialOf}
 use Rattle.modes.specs.FirstKind.{firstOf}
 

@@ -2,9 +2,9 @@
 use Prim.Native.Nat.{ℕ}
 use mathlib.Core.List.{List, [], _∷_}
 use Rattle.arith.specs.Double.{bits}
-use Rattle.modes.specs.declared.checking.Kind.{Kind}
-use Rattle.modes.specs.declared.checking.Kind.the-variants.{Prolate, Oblate}
-use Rattle.modes.specs.declared.checking.Mode.{Mode}
+use Rattle.requests.specs.declared.checking.Kind.{Kind}
+use Rattle.requests.specs.declared.checking.Kind.the-variants.{Prolate, Oblate}
+use Rattle.requests.specs.declared.checking.Mode.{Mode}
 
 -- m = n = 0 with the bits of c
 abbrev lowest : ℕ → Mode

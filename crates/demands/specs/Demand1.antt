@@ -5,10 +5,10 @@ use mathlib.Core.Path.{_≡_}
 use mathlib.Core.List.{List}
 use lib.Ieee.{Float}
 use Rattle.segv.specs.Row.{Slices, Numbered}
-use Rattle.modes.specs.declared.answers.SliceAnswer.the-variants.{Refused}
-use Rattle.modes.specs.declared.checking.Kind.{Kind}
-use Rattle.modes.specs.declared.checking.Mode.{Mode}
-use Rattle.modes.specs.Answers.{outcome}
+use Rattle.requests.specs.declared.answers.SliceAnswer.the-variants.{Refused}
+use Rattle.requests.specs.declared.checking.Kind.{Kind}
+use Rattle.requests.specs.declared.checking.Mode.{Mode}
+use Rattle.requests.specs.Answers.{outcome}
 use Rattle.modes.specs.Rows.{rowOf, dlmfOf}
 use Rattle.modes.specs.Coefficients.{coefficientsOf}
 

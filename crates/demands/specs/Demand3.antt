@@ -10,11 +10,11 @@ use Rattle.arith.specs.Double.{_⊕_, _⊖_, _⊗_, at, #0, #1, #1e-10}
 use Rattle.segv.specs.declared.bisection.Bracket.{Bracket}
 use Rattle.segv.specs.Row.{Slices}
 use Rattle.segv.specs.Sound.{SoundIn}
-use Rattle.modes.specs.declared.answers.Answer.the-variants.{Pair}
-use Rattle.modes.specs.declared.checking.Kind.{Kind}
-use Rattle.modes.specs.declared.checking.Kind.the-variants.{Prolate, Oblate}
-use Rattle.modes.specs.declared.checking.Mode.{Mode}
-use Rattle.modes.specs.Refusals.{csOf, entriesOf}
+use Rattle.requests.specs.declared.answers.Answer.the-variants.{Pair}
+use Rattle.requests.specs.declared.checking.Kind.{Kind}
+use Rattle.requests.specs.declared.checking.Kind.the-variants.{Prolate, Oblate}
+use Rattle.requests.specs.declared.checking.Mode.{Mode}
+use Rattle.requests.specs.Refusals.{csOf, entriesOf}
 use Rattle.modes.specs.Rows.{rowOf, tooShort, dlmfOf}
 use Rattle.modes.specs.Angular.{angularOf}
 

@@ -5,11 +5,11 @@ use lib.Ieee.{Float}
 use lib.ListN.{length, take}
 use Rattle.arith.specs.Double.{bits, bitsOf}
 use Rattle.arith.specs.Root.{sqrt}
-use Rattle.modes.specs.declared.answers.Answer.{Answer}
-use Rattle.modes.specs.declared.answers.Answer.the-variants.{Pair, Quadruple, Refused}
-use Rattle.modes.specs.declared.checking.Kind.{Kind}
-use Rattle.modes.specs.declared.checking.Kind.the-variants.{Prolate, Oblate}
-use Rattle.modes.specs.declared.checking.Mode.{Mode}
+use Rattle.requests.specs.declared.answers.Answer.{Answer}
+use Rattle.requests.specs.declared.answers.Answer.the-variants.{Pair, Quadruple, Refused}
+use Rattle.requests.specs.declared.checking.Kind.{Kind}
+use Rattle.requests.specs.declared.checking.Kind.the-variants.{Prolate, Oblate}
+use Rattle.requests.specs.declared.checking.Mode.{Mode}
 use Rattle.modes.specs.Rows.{rowOf, blankSlices}
 use Rattle.modes.specs.Angular.{angularOf}
 use Rattle.modes.specs.Radial.{radialOf}

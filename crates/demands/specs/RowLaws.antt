@@ -7,8 +7,8 @@ use lib.Ieee.{Float, lt, eq}
 use Rattle.arith.specs.Double.{dbl, at, #0, #1e-10}
 use lib.ListN.{getD}
 use Rattle.segv.specs.Row.{Slices, flag}
-use Rattle.modes.specs.declared.checking.Kind.{Kind}
-use Rattle.modes.specs.declared.checking.Mode.{Mode}
+use Rattle.requests.specs.declared.checking.Kind.{Kind}
+use Rattle.requests.specs.declared.checking.Mode.{Mode}
 use Rattle.modes.specs.Rows.{rowOf, tooShort, dlmfOf}
 use Rattle.demands.specs.Demand3.{handed}
 

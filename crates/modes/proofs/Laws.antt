@@ -1,22 +1,20 @@
--- How the definitions of refusals and rows unfold, in the form in which the proofs of the code meet them. Assumes nothing.
+-- How the definitions of rows, coefficients, angular pairs and radial functions unfold, in the form in which the proofs of the code meet them. Assumes nothing.
 use Prim.Native.Nat.{ℕ, suc, _+_, _-_, _*_, _≤_, _<_}
 use native.Mathlib.Omega.{arith}
 use native.Mathlib.Numerals.{add-one}
 use mathlib.Core.Path.{_≡_, refl, sym, ap, subst, _∙_}
-use mathlib.Core.Bool.{Bool, true, false, cond, _||_}
+use mathlib.Core.Bool.{Bool, true, false, cond}
 use mathlib.Core.List.{List, [], _∷_, _++_}
 use borrow.Author.Tests.{eqb-true, ltb-false, lt-ltb, le-ltb, le-leb, lt-leb, ne-eqb}
 use lib.Dec.{T, ltb, eqb}
-use lib.Ieee.{Float, nan, inf, fin, lt, eq, ne, div, ofBits}
+use lib.Ieee.{Float, nan, inf, fin, lt, eq, ne}
 use lib.Ieee.Compare.{differs-from-itself}
 use lib.ListN.{length, replicate, set, take, drop, take-append-drop}
 use lib.Seq.{take-all, take-suc, take-suc-set, drop-drop, drop-set-lt}
-use Rattle.arith.specs.Double.{_⊘_, _⊗_, at, #0, #1, #1e-10}
+use Rattle.arith.specs.Double.{at, #0, #1, #1e-10}
 use Rattle.arith.specs.Choice.{abs}
-use Rattle.arith.specs.Truncation.{wholePart}
 use Rattle.arith.proofs.Flags.{not-left, neither}
-use Rattle.arith.proofs.Laws.{whole-below}
-use Rattle.expansion.specs.Terms.{hOf, termsOf, Usable, #175}
+use Rattle.expansion.specs.Terms.{termsOf, Usable}
 use Rattle.expansion.specs.Sdmn.{sdmn}
 use Rattle.segv.specs.Families.{bothFamilies}
 use Rattle.segv.specs.Row.{Slices, slices, writtenRow, Numbered, answer, segvRow}
@@ -25,51 +23,17 @@ use Rattle.radial.specs.declared.rmn1.First.{First}
 use Rattle.radial.specs.Rswfo.{rswfo, firstKind}
 use Rattle.angular.specs.declared.aswfa.Pair as Angular
 use Rattle.angular.specs.Aswfa.{aswfa}
-use Rattle.modes.specs.declared.answers.Answer.{Answer}
-use Rattle.modes.specs.declared.answers.Answer.the-variants.{Pair, Quadruple, Refused}
-use Rattle.modes.specs.declared.checking.Mode.{Mode}
-use Rattle.modes.specs.declared.checking.Kind.{Kind}
-use Rattle.modes.specs.Refusals.{outOfRange, noParameter, refusalOf, rowRefusal, modeRefusal, entriesOf, #291, signOf, csOf, tooManyTerms, notFinite, radialModeRefusal}
+use Rattle.requests.specs.declared.answers.Answer.{Answer}
+use Rattle.requests.specs.declared.answers.Answer.the-variants.{Pair, Quadruple, Refused}
+use Rattle.requests.specs.declared.checking.Mode.{Mode}
+use Rattle.requests.specs.declared.checking.Kind.{Kind}
+use Rattle.requests.specs.Refusals.{noParameter, rowRefusal, modeRefusal, entriesOf, signOf, csOf, notFinite, radialModeRefusal, tooFar}
+use Rattle.requests.proofs.Laws.{Accepted, accepted, usable, none, common-usable}
 use Rattle.modes.specs.Radial.{radialRefusal, radialKinds, radialOf}
-use Rattle.modes.specs.FirstKind.{#200, tooFar, firstRefusal, pairOrRefusal, firstOf}
+use Rattle.modes.specs.FirstKind.{firstRefusal, pairOrRefusal, firstOf}
 use Rattle.modes.specs.Angular.{outside, angularRefusal, angularPair, angularOf}
 use Rattle.modes.specs.Coefficients.{coefficientsOf}
 use Rattle.modes.specs.Rows.{zeroAt, rowIn, rowOf, tooShort, blankSlices, lessened, dlmfIn, dlmfOf}
-
--- ---- refusal 5
-pub nan-refused : (c : Float) → ne c c ≡ true → true ≡ noParameter c
-unfolding noParameter
-nan-refused c h = sym (ap noParameter (differs-from-itself c (subst T (sym h) tt)))
-
-pub negative-refused : (c : Float) → lt c #0 ≡ true → true ≡ noParameter c
-unfolding noParameter
-negative-refused nan h = refl
-negative-refused (inf s) h = refl
-negative-refused (fin s m e) h = sym h
-
-pub infinite-refused : (c : Float) → ne c c ≡ false → lt c #0 ≡ false → eq c (#1 ⊘ #0) ≡ noParameter c
-unfolding noParameter ne eq lt div ofBits
-infinite-refused nan h k = not-left h
-infinite-refused (inf true) h k = not-left k
-infinite-refused (inf false) h k = refl
-infinite-refused (fin s m e) h k = sym k
-
-not-negative : (c : Float) → noParameter c ≡ false → lt c #0 ≡ false
-unfolding noParameter
-not-negative nan h = not-left h
-not-negative (inf s) h = not-left h
-not-negative (fin s m e) h = h
-
--- ---- refusal 7
-pub nan-not-finite : (x : Float) → ne x x ≡ true → true ≡ notFinite x
-unfolding notFinite
-nan-not-finite x h = sym (ap notFinite (differs-from-itself x (subst T (sym h) tt)))
-
-pub infinite-not-finite : (x a : Float) → ne x x ≡ false → a ≡ abs x → eq a (#1 ⊘ #0) ≡ notFinite x
-unfolding notFinite ne eq div ofBits abs
-infinite-not-finite nan a h e = not-left h
-infinite-not-finite (inf s) a h e = rw e
-infinite-not-finite (fin s m d) a h e = rw e
 
 -- ---- refusal 8
 pub nan-outside : (x : Float) → ne x x ≡ true → true ≡ outside x
@@ -82,71 +46,7 @@ size-outside nan a h e = not-left h
 size-outside (inf s) a h e = rw e
 size-outside (fin s m d) a h e = rw e
 
--- ---- a mode that is not refused
-pub in-range : (x : Mode) → x .m ≤ 199 → x .m ≤ x .n → x .n - x .m ≤ 199 → outOfRange x ≡ false
-unfolding outOfRange
-in-range x a b c = rw (le-ltb 199 (x .m) a, le-ltb (x .n) (x .m) b, le-ltb 199 (x .n - x .m) c)
-
-pub record Accepted (x : Mode) : Type 0 where
-  pub order : x .m ≤ 199
-  pub rising : x .m ≤ x .n
-  pub span : x .n - x .m ≤ 199
-  pub parameter : noParameter (x .c) ≡ false
-  pub some : 10 ≤ entriesOf x
-  pub few : entriesOf x ≤ 300
-
-none-applies : (a b c : Bool) → _≡_ {A = ℕ} (cond a 4 (cond b 5 (cond c 0 6))) 0 → (a ≡ false) × (b ≡ false) × (c ≡ true)
-none-applies true b c h = absurd (omega arith)
-none-applies false true c h = absurd (omega arith)
-none-applies false false true h = (refl, refl, refl)
-none-applies false false false h = absurd (omega arith)
-
-passes : (limit : Float) (x : Mode) → refusalOf limit x ≡ 0 → (outOfRange x ≡ false) × (noParameter (x .c) ≡ false) × (lt (hOf (x .n - x .m) (x .c)) limit ≡ true)
-unfolding refusalOf
-passes limit x h = none-applies (outOfRange x) (noParameter (x .c)) (lt (hOf (x .n - x .m) (x .c)) limit) h
-
-ranges : (x : Mode) → outOfRange x ≡ false → (x .m ≤ 199) × (x .m ≤ x .n) × (x .n - x .m ≤ 199)
-unfolding outOfRange
-ranges x p =
-    let q = neither (ltb 199 (x .m) || ltb (x .n) (x .m)) (ltb 199 (x .n - x .m)) p in
-    let s = neither (ltb 199 (x .m)) (ltb (x .n) (x .m)) (q .0) in
-    (ltb-false 199 (x .m) (s .0), ltb-false (x .n) (x .m) (s .1), ltb-false 199 (x .n - x .m) (q .1))
-
--- what the routines over coefficients ask
-pub usable : (x : Mode) → modeRefusal x ≡ 0 → Usable (x .m) (x .n) (x .c)
-usable x h =
-    let p = passes #175 x h in
-    let r = ranges x (p .0) in
-    (omega (arith, r), omega (arith, r), omega (arith, r), not-negative (x .c) (p .1), p .2)
-
--- the whole part of H
-pub whole-few : (x : Mode) → rowRefusal x ≡ 0 → wholePart (hOf (x .n - x .m) (x .c)) < 291
-unfolding ofBits
-whole-few x h = whole-below (hOf (x .n - x .m) (x .c)) #291 291 (refl, refl) (omega arith) (passes #291 x h .2)
-
-pub accepted : (x : Mode) → rowRefusal x ≡ 0 → Accepted x
-unfolding entriesOf
-accepted x h =
-    let p = passes #291 x h in
-    let r = ranges x (p .0) in
-    let k = whole-few x h in
-    record {
-      order = r .0;
-      rising = r .1;
-      span = r .2;
-      parameter = p .1;
-      some = omega arith;
-      few = omega (arith, k);
-    }
-
--- a first refusal k leaves the number 0 only where k is 0; and so in an answer
-none : (k j : ℕ) → cond (eqb k 0) j k ≡ 0 → k ≡ 0
-none k j h = go (eqb k 0) refl
-  where
-    go : (t : Bool) → eqb k 0 ≡ t → k ≡ 0
-    go true e = eqb-true k 0 e
-    go false e = rw e at h
-
+-- a first refusal k leaves an answer's number 0 only where k is 0
 none-of : {A : Type 0} (k : ℕ) (a : Numbered A) (x : A) → cond (eqb k 0) a (answer k x) .number ≡ 0 → k ≡ 0
 none-of k a x h = go (eqb k 0) refl
   where
@@ -288,29 +188,6 @@ module _ (kind : Kind) (mode : Mode) (cv x : Float) (k : ℕ) (h : k ≡ angular
   unfolding angularOf angularPair
   pair-given s p z hs hp = rw (← h, z, hp, hs)
 
--- ---- radial functions
-module _ (mode : Mode) (cv : Float) (k : ℕ) (h : k ≡ modeRefusal mode) where
-  pub common-early : (k ≡ 0 → ⊥) → k ≡ radialModeRefusal mode cv
-  unfolding radialModeRefusal
-  common-early n = rw (← h, ne-eqb k 0 n)
-
-  module _ (z : k ≡ 0) where
-    pub common-terms : tooManyTerms mode ≡ true → 6 ≡ radialModeRefusal mode cv
-    unfolding radialModeRefusal
-    common-terms t = rw (← h, z, t)
-
-    pub common-value : tooManyTerms mode ≡ false → notFinite cv ≡ true → 7 ≡ radialModeRefusal mode cv
-    unfolding radialModeRefusal
-    common-value t v = rw (← h, z, t, v)
-
-    pub common-none : tooManyTerms mode ≡ false → notFinite cv ≡ false → 0 ≡ radialModeRefusal mode cv
-    unfolding radialModeRefusal
-    common-none t v = rw (← h, z, t, v)
-
-pub common-usable : (mode : Mode) (cv : Float) → radialModeRefusal mode cv ≡ 0 → modeRefusal mode ≡ 0
-unfolding radialModeRefusal
-common-usable mode cv h = none (modeRefusal mode) _ h
-
 -- ---- both kinds on the disc
 module _ (mode : Mode) (cv x : Float) (k : ℕ) (h : k ≡ radialModeRefusal mode cv) where
   pub radial-early : (k ≡ 0 → ⊥) → k ≡ radialRefusal mode cv x
@@ -340,20 +217,6 @@ module _ (mode : Mode) (cv x : Float) (k : ℕ) (h : k ≡ radialRefusal mode cv
   kinds-given r z e = rw (← h, z, e)
 
 -- ---- the first kind
-module _ (mode : Mode) (x : Float) where
-  pub far-zero : eq x #0 ≡ true → false ≡ tooFar mode x
-  unfolding tooFar
-  far-zero o = rw o
-
-  module _ (o : eq x #0 ≡ false) (n : ℕ) (h : n ≡ termsOf (mode .n - mode .m) (mode .c)) where
-    pub far-orders : 251 < 2 * n + mode .m → true ≡ tooFar mode x
-    unfolding tooFar
-    far-orders t = rw (o, ← h, lt-ltb 251 (2 * n + mode .m) t)
-
-    pub far-argument : 2 * n + mode .m ≤ 251 → lt #200 (mode .c ⊗ x) ≡ tooFar mode x
-    unfolding tooFar
-    far-argument t = rw (o, ← h, le-ltb 251 (2 * n + mode .m) t)
-
 module _ (mode : Mode) (cv x : Float) (k : ℕ) (h : k ≡ radialModeRefusal mode cv) where
   pub first-early : (k ≡ 0 → ⊥) → k ≡ firstRefusal mode cv x
   unfolding firstRefusal

@@ -6,9 +6,9 @@ use lib.Ieee.{Float}
 use lib.ListN.{length, drop}
 use Rattle.expansion.specs.Sdmn.{sdmn}
 use Rattle.segv.specs.Row.{Numbered, answer}
-use Rattle.modes.specs.declared.checking.Kind.{Kind}
-use Rattle.modes.specs.declared.checking.Mode.{Mode}
-use Rattle.modes.specs.Refusals.{signOf, modeRefusal, notFinite}
+use Rattle.requests.specs.declared.checking.Kind.{Kind}
+use Rattle.requests.specs.declared.checking.Mode.{Mode}
+use Rattle.requests.specs.Refusals.{signOf, modeRefusal, notFinite}
 
 -- refused 4, 5, 6, 7 or 9 (the slice has fewer than 200 places), the slice stays as it was; else the coefficients are in its first 200 places
 unfoldable pub coefficientsOf : Kind → Mode → Float → List Float → Numbered (List Float)

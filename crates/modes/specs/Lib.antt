@@ -1,6 +1,3 @@
-pub mod Answers
-pub mod Refusals
-pub mod Operations
 pub mod Rows
 pub mod Coefficients
 pub mod Angular

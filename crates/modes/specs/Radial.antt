@@ -6,10 +6,10 @@ use lib.Ieee.{Float, eq}
 use Rattle.arith.specs.Double.{#0}
 use Rattle.radial.specs.declared.rswfo.Radial as Disc
 use Rattle.radial.specs.Rswfo.{rswfo}
-use Rattle.modes.specs.declared.answers.Answer.{Answer}
-use Rattle.modes.specs.declared.answers.Answer.the-variants.{Quadruple, Refused}
-use Rattle.modes.specs.declared.checking.Mode.{Mode}
-use Rattle.modes.specs.Refusals.{radialModeRefusal}
+use Rattle.requests.specs.declared.answers.Answer.{Answer}
+use Rattle.requests.specs.declared.answers.Answer.the-variants.{Quadruple, Refused}
+use Rattle.requests.specs.declared.checking.Mode.{Mode}
+use Rattle.requests.specs.Refusals.{radialModeRefusal}
 
 -- the first of 4, 5, 6, 7 and 8 that applies, or 0 for none; 8 is that x isn't zero of either sign
 unfoldable pub radialRefusal : Mode → Float → Float → ℕ

@@ -9,9 +9,9 @@ use Rattle.arith.specs.Double.{_⊖_, _⊗_, dbl, at, #0, #1e-10}
 use Rattle.segv.specs.declared.bisection.Bracket.{Bracket}
 use Rattle.segv.specs.Families.{bothFamilies}
 use Rattle.segv.specs.Row.{Slices, slices, writtenRow, Numbered, answer, segvRow}
-use Rattle.modes.specs.declared.checking.Kind.{Kind}
-use Rattle.modes.specs.declared.checking.Mode.{Mode}
-use Rattle.modes.specs.Refusals.{csOf, entriesOf, rowRefusal}
+use Rattle.requests.specs.declared.checking.Kind.{Kind}
+use Rattle.requests.specs.declared.checking.Mode.{Mode}
+use Rattle.requests.specs.Refusals.{csOf, entriesOf, rowRefusal}
 
 -- ---- the row
 

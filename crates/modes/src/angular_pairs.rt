@@ -1,9 +1,9 @@
 // The angular pair of a mode.
 ghost use mathlib.Core.Path.{_≡_};
 ghost use Rattle.modes.specs.Angular as Angular;
-use super::answers::Answer;
-use super::checking::Kind;
-use super::checking::Mode;
+use requests::Answer;
+use requests::Kind;
+use requests::Mode;
 
 // Whether x is NaN or greater than 1 in size.
 fn outside(x: f64) -> bool
@@ -23,7 +23,7 @@ fn angular_refusal(mode: Mode, cv: f64, x: f64) -> u8
     if refused != 0 {
         return refused;
     }
-    if super::checking::not_finite(cv) {
+    if requests::not_finite(cv) {
         return 7;
     }
     if outside(x) {
@@ -41,7 +41,7 @@ pub fn angular(kind: Kind, mode: Mode, cv: f64, x: f64) -> Answer
     if refused != 0 {
         return Answer::Refused(refused);
     }
-    let kd = super::checking::sign(kind);
+    let kd = requests::sign(kind);
     let pair = angular::aswfa::aswfa(mode.m as u32, mode.n as u32, mode.c, cv, kd, x);
     Answer::Pair(pair.value, pair.derivative)
 }

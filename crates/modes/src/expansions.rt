@@ -4,11 +4,11 @@ ghost use Prim.Native.Nat.{_≤_};
 ghost use lib.ListN.{length, drop};
 ghost use mathlib.Core.List.{_++_};
 ghost use Rattle.segv.specs.Row.{answer};
-ghost use Rattle.modes.specs.Answers.{outcome};
+ghost use Rattle.requests.specs.Answers.{outcome};
 ghost use Rattle.modes.specs.Coefficients.{coefficientsOf};
-use super::answers::SliceAnswer;
-use super::checking::Kind;
-use super::checking::Mode;
+use requests::Kind;
+use requests::Mode;
+use requests::SliceAnswer;
 
 // The coefficients go into the first 200 places.
 fn copy(df: &[f64; 200], out: &mut [f64])
@@ -30,13 +30,13 @@ fn coefficients_number(kind: Kind, mode: Mode, cv: f64, out: &mut [f64]) -> u8
     if refused != 0 {
         return refused;
     }
-    if super::checking::not_finite(cv) {
+    if requests::not_finite(cv) {
         return 7;
     }
     if out.len() < 200 {
         return 9;
     }
-    let kd = super::checking::sign(kind);
+    let kd = requests::sign(kind);
     let df = expansion::sdmn::sdmn(mode.m as u32, mode.n as u32, mode.c, cv, kd);
     copy(&df, out);
     0
@@ -47,5 +47,5 @@ fn coefficients_number(kind: Kind, mode: Mode, cv: f64, out: &mut [f64]) -> u8
 pub fn coefficients(kind: Kind, mode: Mode, cv: f64, out: &mut [f64]) -> SliceAnswer
     ensures { λ r. ⌜ record { answer = r; after = now (out .exit) } ≡ outcome (coefficientsOf kind mode cv (now (out .entry))) ⌝ }
 {
-    super::answers::slice_answer(coefficients_number(kind, mode, cv, out))
+    requests::slice_answer(coefficients_number(kind, mode, cv, out))
 }

@@ -1,9 +1,9 @@
 // The first oblate radial function of a mode, on the disc and off it.
 ghost use mathlib.Core.Path.{_≡_};
 ghost use Rattle.modes.specs.FirstKind as FirstKind;
-use super::answers::Answer;
-use super::checking::Mode;
 use radial::rmn1::First;
+use requests::Answer;
+use requests::Mode;
 
 // The first of 4 to 8 and 11 that applies, or 0.
 fn first_refusal(mode: Mode, cv: f64, x: f64) -> u8
@@ -13,7 +13,7 @@ fn first_refusal(mode: Mode, cv: f64, x: f64) -> u8
     if refused != 0 {
         return refused;
     }
-    if super::checking::no_parameter(x) {
+    if requests::no_parameter(x) {
         return 8;
     }
     if mode.too_far(x) {

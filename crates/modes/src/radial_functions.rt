@@ -1,8 +1,8 @@
 // The oblate radial functions of a mode on the disc.
 ghost use mathlib.Core.Path.{_≡_};
 ghost use Rattle.modes.specs.Radial as Radial;
-use super::answers::Answer;
-use super::checking::Mode;
+use requests::Answer;
+use requests::Mode;
 
 // The first of 4 to 8 that applies, or 0.
 fn radial_refusal(mode: Mode, cv: f64, x: f64) -> u8

@@ -3,12 +3,12 @@ ghost use mathlib.Core.Path.{_≡_};
 ghost use Prim.Native.Nat.{_-_, _<_, _≤_};
 ghost use lib.ListN.{length, replicate};
 ghost use Rattle.segv.specs.Row.{slices, writtenRow, answer};
-ghost use Rattle.modes.specs.Refusals.{rowRefusal};
-ghost use Rattle.modes.specs.Answers.{outcome};
+ghost use Rattle.requests.specs.Refusals.{rowRefusal};
+ghost use Rattle.requests.specs.Answers.{outcome};
 ghost use Rattle.modes.specs.Rows.{zeroAt, rowIn, rowOf, lessened, dlmfOf};
-use super::answers::SliceAnswer;
-use super::checking::Kind;
-use super::checking::Mode;
+use requests::Kind;
+use requests::Mode;
+use requests::SliceAnswer;
 
 // The row where c is below 1e-10.
 fn zero_row(
@@ -146,7 +146,7 @@ pub fn row(
     ensures { λ r. ⌜ record { answer = r; after = slices (now (values .exit)) (now (steps .exit)) (now (lowers .exit)) (now (uppers .exit)) (now (substituted .exit)) }
         ≡ outcome (rowOf kind mode allowance (slices (now (values .entry)) (now (steps .entry)) (now (lowers .entry)) (now (uppers .entry)) (now (substituted .entry)))) ⌝ }
 {
-    super::answers::slice_answer(row_number(
+    requests::slice_answer(row_number(
         kind,
         mode,
         allowance,
@@ -228,5 +228,5 @@ fn dlmf_number(kind: Kind, mode: Mode, allowance: u16, out: &mut [f64]) -> u8
 pub fn dlmf_row(kind: Kind, mode: Mode, allowance: u16, values: &mut [f64]) -> SliceAnswer
     ensures { λ r. ⌜ record { answer = r; after = now (values .exit) } ≡ outcome (dlmfOf kind mode allowance (now (values .entry))) ⌝ }
 {
-    super::answers::slice_answer(dlmf_number(kind, mode, allowance, values))
+    requests::slice_answer(dlmf_number(kind, mode, allowance, values))
 }

@@ -2,8 +2,8 @@
 use Prim.Native.Nat.{ℕ}
 use mathlib.Core.Path.{_≡_, ap}
 use Rattle.segv.specs.Row.{Numbered, answer}
-use Rattle.modes.specs.declared.answers.SliceAnswer.{SliceAnswer}
-use Rattle.modes.specs.Answers.{given, outcome}
+use Rattle.requests.specs.declared.answers.SliceAnswer.{SliceAnswer}
+use Rattle.requests.specs.Answers.{given, outcome}
 
 pub numbered-is : {A : Type 0} (a : Numbered A) (r : SliceAnswer) (after : A) (k : ℕ) → record { answer = r; after = after } ≡ outcome a → ((j : ℕ) → r ≡ given j → k ≡ j)
     → answer k after ≡ a

@@ -3,9 +3,9 @@
 ghost use mathlib.Core.Path.{_≡_};
 ghost use Prim.Native.Nat.{ℕ};
 ghost use Rattle.segv.specs.Row.{slices, answer};
-ghost use Rattle.modes.specs.declared.checking.Kind.the-variants.{Prolate, Oblate};
+ghost use Rattle.requests.specs.declared.checking.Kind.the-variants.{Prolate, Oblate};
 ghost use Rattle.modes.specs.Rows.{rowOf, dlmfOf};
-ghost use Rattle.modes.specs.Answers.{given};
+ghost use Rattle.requests.specs.Answers.{given};
 ghost use Rattle.modes.specs.Coefficients.{coefficientsOf};
 ghost use Rattle.modes.specs.Angular.{angularOf};
 ghost use Rattle.modes.specs.Radial.{radialOf};

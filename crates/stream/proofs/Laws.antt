@@ -14,14 +14,15 @@ use Rattle.records.specs.Text.{Put}
 pub use Rattle.records.proofs.Laws.{put-length}
 use Rattle.records.specs.Lines.{rLine}
 use Rattle.segv.specs.Row.{Slices, slices}
-use Rattle.modes.specs.declared.checking.Kind.{Kind}
-use Rattle.modes.specs.declared.checking.Mode.{Mode}
-use Rattle.modes.specs.declared.answers.SliceAnswer.{SliceAnswer}
-use Rattle.modes.specs.declared.answers.SliceAnswer.the-variants.{Filled, Refused}
-use Rattle.modes.specs.Answers.{given, outcome}
+use Rattle.requests.specs.declared.checking.Kind.{Kind}
+use Rattle.requests.specs.declared.checking.Mode.{Mode}
+use Rattle.requests.specs.declared.answers.SliceAnswer.{SliceAnswer}
+use Rattle.requests.specs.declared.answers.SliceAnswer.the-variants.{Filled, Refused}
+use Rattle.requests.specs.Answers.{given, outcome}
 use Rattle.modes.specs.Rows.{rowOf, blankSlices, dlmfOf}
-use Rattle.modes.proofs.Laws.{Accepted, row-mode, dlmf-mode}
-use Rattle.modes.proofs.Given.{given-filled, given-refused}
+use Rattle.requests.proofs.Laws.{Accepted}
+use Rattle.modes.proofs.Laws.{row-mode, dlmf-mode}
+use Rattle.requests.proofs.Given.{given-filled, given-refused}
 use Rattle.stream.specs.Response.{rowLines, dLines, rowText, dlmfText}
 
 -- no text at all

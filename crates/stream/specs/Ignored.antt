@@ -4,9 +4,9 @@ use mathlib.Core.Path.{_≡_}
 use mathlib.Core.List.{List, [], _∷_, _++_}
 use Rattle.records.specs.declared.record.Record.{Record}
 use Rattle.records.specs.Lines.{number}
-use Rattle.modes.specs.declared.operations.Operation.{Operation}
-use Rattle.modes.specs.declared.operations.Operation.the-variants.{Row, Angular, Radial, DlmfRow, FirstKind, Refused}
-use Rattle.modes.specs.Operations.{operationOf}
+use Rattle.requests.specs.declared.operations.Operation.{Operation}
+use Rattle.requests.specs.declared.operations.Operation.the-variants.{Row, Angular, Radial, DlmfRow, FirstKind, Refused}
+use Rattle.requests.specs.Operations.{operationOf}
 use Rattle.stream.specs.Response.{responseTo}
 
 -- two records agree in what their operation reads besides m, n and c

@@ -10,14 +10,14 @@ use Rattle.arith.specs.Double.{at, #0}
 use Rattle.records.specs.declared.record.Record.{Record}
 use Rattle.records.specs.Lines.{vLine, zLine, dLine, pairLine, fLine, rLine}
 use Rattle.segv.specs.Row.{Slices}
-use Rattle.modes.specs.declared.answers.Answer.{Answer}
-use Rattle.modes.specs.declared.answers.Answer.the-variants as Answers
-use Rattle.modes.specs.declared.answers.Answer.the-variants.{Pair, Quadruple}
-use Rattle.modes.specs.declared.checking.Kind.{Kind}
-use Rattle.modes.specs.declared.checking.Mode.{Mode}
-use Rattle.modes.specs.declared.operations.Operation.{Operation}
-use Rattle.modes.specs.declared.operations.Operation.the-variants.{Row, Angular, Radial, DlmfRow, FirstKind, Refused}
-use Rattle.modes.specs.Operations.{operationOf}
+use Rattle.requests.specs.declared.answers.Answer.{Answer}
+use Rattle.requests.specs.declared.answers.Answer.the-variants as Answers
+use Rattle.requests.specs.declared.answers.Answer.the-variants.{Pair, Quadruple}
+use Rattle.requests.specs.declared.checking.Kind.{Kind}
+use Rattle.requests.specs.declared.checking.Mode.{Mode}
+use Rattle.requests.specs.declared.operations.Operation.{Operation}
+use Rattle.requests.specs.declared.operations.Operation.the-variants.{Row, Angular, Radial, DlmfRow, FirstKind, Refused}
+use Rattle.requests.specs.Operations.{operationOf}
 use Rattle.modes.specs.Rows.{rowOf, dlmfOf, blankSlices}
 use Rattle.modes.specs.Angular.{angularOf}
 use Rattle.modes.specs.Radial.{radialOf}

@@ -1,6 +1,6 @@
 -- `spheroidal_c::number` meets its contract. Assumes nothing.
 use mathlib.Core.Path.{sym, _∙_}
-use Rattle.modes.proofs.Given.{filled-number, refused-number}
+use Rattle.requests.proofs.Given.{filled-number, refused-number}
 use borrow.Author.Needs.{needs}
 use Rattle.spheroidal_c.proofs.number.Statement.{statement}
 use Rattle.spheroidal_c.proofs.number.Tie as tie

@@ -1,7 +1,7 @@
 -- `modes::expansions::coefficients` meets its contract: the answer has the number that `coefficients_number` gives. Assumes nothing.
 use borrow.Author.Needs.{needs}
 use mathlib.Core.Path.{ap}
-use Rattle.modes.specs.Answers.{outcome}
+use Rattle.requests.specs.Answers.{outcome}
 use Rattle.modes.proofs.expansions.coefficients.Statement.{statement}
 use Rattle.modes.proofs.expansions.coefficients.Tie as tie
 

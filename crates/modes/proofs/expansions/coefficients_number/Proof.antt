@@ -1,6 +1,7 @@
 -- `modes::expansions::coefficients_number` meets its contract. Each return is one case of the definition. Assumes nothing.
 use borrow.Author.Needs.{needs}
 use mathlib.Core.Path.{sym, ap, _∙_}
+use Rattle.requests.proofs.Laws.{usable}
 use Rattle.modes.proofs.Laws as laws
 use Rattle.expansion.proofs.Lengths.{sdmn-length}
 use lib.ListN.{length}
@@ -32,7 +33,7 @@ cast-sdmn-2 : tie.Need-cast-sdmn-2
 cast-sdmn-2 c = search needs
 
 sdmn-requires : tie.Need-sdmn-requires
-sdmn-requires c κs = laws.usable (c .before .before .before .before .before .before .before .before .before .args .mode) (sym (c .before .before .before .before .before .before .before .mode-refusal .ensures) ∙ c .before .before .before .before .before .before .if1 .left)
+sdmn-requires c κs = usable (c .before .before .before .before .before .before .before .before .before .args .mode) (sym (c .before .before .before .before .before .before .before .mode-refusal .ensures) ∙ c .before .before .before .before .before .before .if1 .left)
 
 copy-requires : tie.Need-copy-requires
 copy-requires c κs = (ap length (c .before .before .sdmn .ensures) ∙ sdmn-length _ _ _ _ _, c .before .before .before .before .before .before .if3 .left)

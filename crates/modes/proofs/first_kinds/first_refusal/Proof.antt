@@ -1,6 +1,7 @@
 -- `modes::first_kinds::first_refusal` meets its contract. Each return is one case of the definition. Assumes nothing.
 use borrow.Author.Needs.{needs}
 use mathlib.Core.Path.{sym, _∙_}
+use Rattle.requests.proofs.Laws.{common-usable}
 use Rattle.modes.proofs.Laws as laws
 use Rattle.modes.proofs.first_kinds.first_refusal.Statement.{statement}
 use Rattle.modes.proofs.first_kinds.first_refusal.Tie as tie
@@ -18,7 +19,7 @@ returns-2 : tie.Need-returns-2
 returns-2 c = laws.first-outside _ _ _ _ (c .before .before .before .radial-mode-refusal .ensures) (c .before .before .if1 .left) (sym (c .before .no-parameter .ensures) ∙ c .if2 .taken)
 
 too-far-requires : tie.Need-too-far-requires
-too-far-requires c κs = laws.common-usable _ _ (sym (c .before .before .before .radial-mode-refusal .ensures) ∙ c .before .before .if1 .left)
+too-far-requires c κs = common-usable _ _ (sym (c .before .before .before .radial-mode-refusal .ensures) ∙ c .before .before .if1 .left)
 
 returns-3 : tie.Need-returns-3
 returns-3 c = laws.first-far _ _ _ _ (c .before .before .before .before .before .radial-mode-refusal .ensures) (c .before .before .before .before .if1 .left) (sym (c .before .before .before .no-parameter .ensures) ∙ c .before .before .if2 .left) (sym (c .before .too-far .ensures) ∙ c .if3 .taken)

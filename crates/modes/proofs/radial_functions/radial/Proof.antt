@@ -1,6 +1,7 @@
 -- `modes::radial_functions::radial` meets its contract. Assumes nothing.
 use borrow.Author.Needs.{needs}
 use mathlib.Core.Path.{sym, _∙_}
+use Rattle.requests.proofs.Laws.{usable}
 use Rattle.modes.proofs.Laws as laws
 use Rattle.modes.proofs.radial_functions.radial.Statement.{statement}
 use Rattle.modes.proofs.radial_functions.radial.Tie as tie
@@ -18,7 +19,7 @@ cast-rswfo-2 : tie.Need-cast-rswfo-2
 cast-rswfo-2 c = search needs
 
 rswfo-requires : tie.Need-rswfo-requires
-rswfo-requires c κs = laws.usable (c .before .before .before .before .args .mode) (laws.radial-usable (c .before .before .before .before .args .mode) (c .before .before .before .before .args .cv) (c .before .before .before .before .args .x) (sym (c .before .before .before .radial-refusal .ensures) ∙ c .before .before .if1 .left))
+rswfo-requires c κs = usable (c .before .before .before .before .args .mode) (laws.radial-usable (c .before .before .before .before .args .mode) (c .before .before .before .before .args .cv) (c .before .before .before .before .args .x) (sym (c .before .before .before .radial-refusal .ensures) ∙ c .before .before .if1 .left))
 
 returns-2 : tie.Need-returns-2
 returns-2 c = laws.kinds-given _ _ _ _ (c .before .before .before .before .radial-refusal .ensures) (c .rswfo .result) (c .before .before .before .if1 .left) (c .rswfo .ensures)

@@ -5,6 +5,7 @@ use native.Mathlib.Omega.{arith}
 use lib.ListN.{length, length-replicate}
 use Rattle.arith.specs.Double.{#0}
 use Rattle.expansion.specs.Sums as Sums
+use Rattle.requests.proofs.Laws.{accepted}
 use Rattle.modes.proofs.Laws as laws
 use borrow.Author.Needs.{needs}
 use Rattle.modes.proofs.rows.dlmf_number.Statement.{statement}
@@ -17,7 +18,7 @@ returns : tie.Need-returns
 returns c = laws.dlmf-early _ _ _ _ _ (c .before .row-refusal .ensures) (c .if1 .taken)
 
 sub-last : tie.Need-sub-last
-sub-last c = let ok = laws.accepted (c .before .before .before .before .args .mode) (sym (c .before .before .row-refusal .ensures) ∙ c .before .if1 .left) in omega arith
+sub-last c = let ok = accepted (c .before .before .before .before .args .mode) (sym (c .before .before .row-refusal .ensures) ∙ c .before .if1 .left) in omega arith
 
 cast-last : tie.Need-cast-last
 cast-last c = search needs
@@ -59,7 +60,7 @@ row-in-requires : tie.Need-row-in-requires
 unfolding Sums.blank
 row-in-requires c κs =
     let e = sym (c .before .before .before .before .before .before .before .before .before .before .before .before .before .row-refusal .ensures) ∙ c .before .before .before .before .before .before .before .before .before .before .before .before .if1 .left in
-    let ok = laws.accepted (c .before .before .before .before .before .before .before .before .before .before .before .before .before .before .before .args .mode) e in
+    let ok = accepted (c .before .before .before .before .before .before .before .before .before .before .before .before .before .before .before .args .mode) e in
     let v = ap length (c .before .before .before .before .before .before .before .before .before .blank .ensures) ∙ length-replicate 200 #0 in
     let s = ap length (c .before .before .before .before .before .before .before .before .zero-steps .ensures) ∙ length-replicate {A = ℕ} 200 0 in
     let w = ap length (c .before .before .before .before .before .before .before .blank2 .ensures) ∙ length-replicate 200 #0 in
@@ -79,7 +80,7 @@ cs-requires c κs = search needs
 
 lessen-requires : tie.Need-lessen-requires
 lessen-requires c κs =
-    let ok = laws.accepted (c .before .before .before .before .before .before .before .before .before .before .before .before .before .before .before .before .before .before .before .before .before .before .before .before .before .args .mode) (sym (c .before .before .before .before .before .before .before .before .before .before .before .before .before .before .before .before .before .before .before .before .before .before .before .row-refusal .ensures) ∙ c .before .before .before .before .before .before .before .before .before .before .before .before .before .before .before .before .before .before .before .before .before .before .if1 .left) in
+    let ok = accepted (c .before .before .before .before .before .before .before .before .before .before .before .before .before .before .before .before .before .before .before .before .before .before .before .before .before .args .mode) (sym (c .before .before .before .before .before .before .before .before .before .before .before .before .before .before .before .before .before .before .before .before .before .before .before .row-refusal .ensures) ∙ c .before .before .before .before .before .before .before .before .before .before .before .before .before .before .before .before .before .before .before .before .before .before .if1 .left) in
     let h = c .before .before .before .before .before .before .before .before .before .before .before .before .before .before .before .before .before .before .before .before .if2 .left in
     omega arith
 

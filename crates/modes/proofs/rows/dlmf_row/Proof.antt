@@ -1,6 +1,6 @@
 -- `modes::rows::dlmf_row` meets its contract: the answer has the number that `dlmf_number` gives. Assumes nothing.
 use mathlib.Core.Path.{ap}
-use Rattle.modes.specs.Answers.{outcome}
+use Rattle.requests.specs.Answers.{outcome}
 use borrow.Author.Needs.{needs}
 use Rattle.modes.proofs.rows.dlmf_row.Statement.{statement}
 use Rattle.modes.proofs.rows.dlmf_row.Tie as tie

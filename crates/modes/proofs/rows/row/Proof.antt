@@ -1,6 +1,6 @@
 -- `modes::rows::row` meets its contract: the answer has the number that `row_number` gives. Assumes nothing.
 use mathlib.Core.Path.{ap}
-use Rattle.modes.specs.Answers.{outcome}
+use Rattle.requests.specs.Answers.{outcome}
 use borrow.Author.Needs.{needs}
 use Rattle.modes.proofs.rows.row.Statement.{statement}
 use Rattle.modes.proofs.rows.row.Tie as tie

@@ -1,5 +1,6 @@
 -- `modes::rows::row_in` meets its contract: the two ways of the definition. Assumes nothing.
 use native.Mathlib.Omega.{arith}
+use Rattle.requests.proofs.Laws.{accepted}
 use Rattle.modes.proofs.Laws as laws
 use borrow.Author.Needs.{needs}
 use Rattle.modes.proofs.rows.row_in.Statement.{statement}
@@ -12,7 +13,7 @@ cast-n : tie.Need-cast-n
 cast-n c = search needs
 
 sub-zero-row : tie.Need-sub-zero-row
-sub-zero-row c = let s = c .before .before .before .before .before .before .before .before in let ok = laws.accepted (s .args .mode) (s .pre .0) in omega arith
+sub-zero-row c = let s = c .before .before .before .before .before .before .before .before in let ok = accepted (s .args .mode) (s .pre .0) in omega arith
 
 add-zero-row : tie.Need-add-zero-row
 add-zero-row c = search needs
@@ -21,7 +22,7 @@ cast-zero-row : tie.Need-cast-zero-row
 cast-zero-row c = search needs
 
 zero-row-requires : tie.Need-zero-row-requires
-zero-row-requires c κs = let s = c .before .before .before .before .before .before .before .before .before .before .before .before .before in let ok = laws.accepted (s .args .mode) (s .pre .0) in omega arith
+zero-row-requires c κs = let s = c .before .before .before .before .before .before .before .before .before .before .before .before .before in let ok = accepted (s .args .mode) (s .pre .0) in omega arith
 
 same-length : tie.Need-same-length
 same-length c = search needs
@@ -50,7 +51,7 @@ entries-requires c κs = c .before .before .before .before .before .before .befo
 segv-requires : tie.Need-segv-requires
 segv-requires c κs =
     let s = c .before .before .before .before .before .before .before .before .before .before .before .before .before .before .before in
-    let ok = laws.accepted (s .args .mode) (s .pre .0) in
+    let ok = accepted (s .args .mode) (s .pre .0) in
     let e = c .before .before .before .before .before .entries .ensures in
     omega arith
 

@@ -3,6 +3,7 @@ use mathlib.Core.Path.{sym, _∙_}
 use native.Mathlib.Omega.{arith}
 use borrow.Author.Tests.{le-leb, lt-leb}
 use Rattle.modes.specs.Rows.{tooShort}
+use Rattle.requests.proofs.Laws.{accepted}
 use Rattle.modes.proofs.Laws as laws
 use borrow.Author.Needs.{needs}
 use Rattle.modes.proofs.rows.row_number.Statement.{statement}
@@ -15,7 +16,7 @@ returns : tie.Need-returns
 returns c = laws.early _ _ _ _ _ (c .before .row-refusal .ensures) (c .if1 .taken)
 
 sub-last : tie.Need-sub-last
-sub-last c = let ok = laws.accepted (c .before .before .before .before .before .before .before .before .args .mode) (sym (c .before .before .row-refusal .ensures) ∙ c .before .if1 .left) in omega arith
+sub-last c = let ok = accepted (c .before .before .before .before .before .before .before .before .args .mode) (sym (c .before .before .row-refusal .ensures) ∙ c .before .if1 .left) in omega arith
 
 cast-last : tie.Need-cast-last
 cast-last c = search needs
