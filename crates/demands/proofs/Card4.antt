@@ -5,7 +5,7 @@ use Prim.Native.Nat.{ℕ}
 use Rattle.arith.specs.Double.{bitsOf, at, #0}
 use Rattle.requests.specs.declared.checking.Kind.{Kind}
 use Rattle.requests.specs.declared.checking.Mode.{Mode}
-use Rattle.modes.specs.Rows.{dlmfOf}
+use Rattle.rows.specs.Rows.{dlmfOf}
 use Rattle.demands.specs.Card4.{eigenvalues}
 use Rattle.demands.proofs.Computed.{computed}
 

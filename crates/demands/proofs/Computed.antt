@@ -33,7 +33,7 @@ use Rattle.radial.specs.Rmn1 as Rmn1
 use Rattle.radial.specs.Rmn2so.{rmn2so}
 use Rattle.radial.specs.Rswfo.{rswfo, firstKind}
 use Rattle.requests.specs.Refusals.{signOf, entriesOf, outOfRange, noParameter, refusalOf, tooManyTerms, notFinite, radialModeRefusal, tooFar}
-use Rattle.modes.specs.Rows.{tooShort, zeroAt, rowIn, rowOf, blankSlices, lessened, dlmfIn, dlmfOf}
+use Rattle.rows.specs.Rows.{tooShort, zeroAt, rowIn, rowOf, blankSlices, lessened, dlmfIn, dlmfOf}
 use Rattle.modes.specs.Angular.{outside, angularRefusal, angularPair, angularOf}
 use Rattle.modes.specs.Radial.{radialRefusal, radialKinds, radialOf}
 use Rattle.modes.specs.FirstKind.{firstRefusal, pairOrRefusal, firstOf}

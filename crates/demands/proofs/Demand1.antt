@@ -16,7 +16,7 @@ use Rattle.requests.specs.declared.checking.Kind.{Kind}
 use Rattle.requests.specs.declared.checking.Mode.{Mode}
 use Rattle.requests.specs.Answers.{given}
 use Rattle.requests.specs.Refusals.{rowRefusal, modeRefusal, notFinite}
-use Rattle.modes.specs.Rows.{tooShort, rowIn, rowOf, dlmfIn, dlmfOf}
+use Rattle.rows.specs.Rows.{tooShort, rowIn, rowOf, dlmfIn, dlmfOf}
 use Rattle.modes.specs.Coefficients.{coefficientsOf}
 use Rattle.requests.proofs.Given.{given-refused}
 use Rattle.demands.specs.Demand1.{Demand1Rows, Demand1Dlmf, Demand1Coefficients}

@@ -19,7 +19,7 @@ use Rattle.requests.specs.declared.checking.Mode.{Mode}
 use Rattle.requests.specs.declared.checking.Kind.{Kind}
 use Rattle.requests.specs.declared.checking.Kind.the-variants.{Prolate, Oblate}
 use Rattle.requests.specs.Refusals.{rowRefusal, signOf, csOf, entriesOf}
-use Rattle.modes.specs.Rows.{rowIn, blankSlices, lessened, dlmfIn, dlmfOf}
+use Rattle.rows.specs.Rows.{rowIn, blankSlices, lessened, dlmfIn, dlmfOf}
 use Rattle.demands.specs.Demand3.{eigenvalue, Demand3Rows, Demand3Dlmf}
 use Rattle.requests.proofs.Laws.{accepted}
 use Rattle.demands.proofs.Filled.{bracketAt, Given, given-in, filled, filled-of, long-all, blank-room, handed-at}

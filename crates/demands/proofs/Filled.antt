@@ -18,10 +18,10 @@ use Rattle.segv.specs.Row.{Slices, flag, written, writtenRow, answer, modeAt, s
 use Rattle.requests.specs.declared.checking.Mode.{Mode}
 use Rattle.requests.specs.declared.checking.Kind.{Kind}
 use Rattle.requests.specs.Refusals.{rowRefusal, csOf, entriesOf}
-use Rattle.modes.specs.Rows.{rowOf, rowIn, tooShort, zeroAt, blankSlices}
+use Rattle.rows.specs.Rows.{rowOf, rowIn, tooShort, zeroAt, blankSlices}
 use Rattle.demands.specs.Demand3.{handed}
 use Rattle.requests.proofs.Laws.{Accepted, accepted}
-use Rattle.modes.proofs.Laws.{long-enough}
+use Rattle.rows.proofs.Laws.{long-enough}
 
 -- ---- what is written
 module _ {A : Type 0} (field : Bracket → A) (bracket : ℕ → Bracket) (xs : List A) (d : A) where

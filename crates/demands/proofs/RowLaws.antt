@@ -15,8 +15,8 @@ use Rattle.requests.specs.declared.checking.Mode.{Mode}
 use Rattle.requests.specs.declared.checking.Kind.{Kind}
 use Rattle.requests.specs.declared.checking.Kind.the-variants.{Prolate, Oblate}
 use Rattle.requests.specs.Refusals.{csOf, entriesOf}
-use Rattle.modes.specs.Rows.{rowOf, rowIn, zeroAt}
-use Rattle.modes.proofs.Laws.{dlmf-mode}
+use Rattle.rows.specs.Rows.{rowOf, rowIn, zeroAt}
+use Rattle.rows.proofs.Laws.{dlmf-mode}
 use Rattle.demands.specs.Demand3.{eigenvalue}
 use Rattle.demands.specs.RowLaws.{dlmfAtZero, ZeroParameter, FlagsHanded, DlmfZeroParameter, MoreAllowance}
 use Rattle.demands.proofs.Zero.{zero-square, zero-below, less-zero, more-zero}

@@ -9,7 +9,7 @@ use Rattle.requests.specs.declared.answers.SliceAnswer.the-variants.{Refused}
 use Rattle.requests.specs.declared.checking.Kind.{Kind}
 use Rattle.requests.specs.declared.checking.Mode.{Mode}
 use Rattle.requests.specs.Answers.{outcome}
-use Rattle.modes.specs.Rows.{rowOf, dlmfOf}
+use Rattle.rows.specs.Rows.{rowOf, dlmfOf}
 use Rattle.modes.specs.Coefficients.{coefficientsOf}
 
 -- whatever the places hold when the call begins: if it is refused, they hold the same afterwards

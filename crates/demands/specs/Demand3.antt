@@ -15,7 +15,7 @@ use Rattle.requests.specs.declared.checking.Kind.{Kind}
 use Rattle.requests.specs.declared.checking.Kind.the-variants.{Prolate, Oblate}
 use Rattle.requests.specs.declared.checking.Mode.{Mode}
 use Rattle.requests.specs.Refusals.{csOf, entriesOf}
-use Rattle.modes.specs.Rows.{rowOf, tooShort, dlmfOf}
+use Rattle.rows.specs.Rows.{rowOf, tooShort, dlmfOf}
 use Rattle.modes.specs.Angular.{angularOf}
 
 -- what a row hands out for the mode at offset j: the value, and the lower, the upper, the step number and the flag beside it, of which 1 is yes

@@ -10,7 +10,7 @@ use Rattle.requests.specs.declared.answers.Answer.the-variants.{Pair, Quadruple
 use Rattle.requests.specs.declared.checking.Kind.{Kind}
 use Rattle.requests.specs.declared.checking.Kind.the-variants.{Prolate, Oblate}
 use Rattle.requests.specs.declared.checking.Mode.{Mode}
-use Rattle.modes.specs.Rows.{rowOf, blankSlices}
+use Rattle.rows.specs.Rows.{rowOf, blankSlices}
 use Rattle.modes.specs.Angular.{angularOf}
 use Rattle.modes.specs.Radial.{radialOf}
 

@@ -9,7 +9,7 @@ use lib.ListN.{getD}
 use Rattle.segv.specs.Row.{Slices, flag}
 use Rattle.requests.specs.declared.checking.Kind.{Kind}
 use Rattle.requests.specs.declared.checking.Mode.{Mode}
-use Rattle.modes.specs.Rows.{rowOf, tooShort, dlmfOf}
+use Rattle.rows.specs.Rows.{rowOf, tooShort, dlmfOf}
 use Rattle.demands.specs.Demand3.{handed}
 
 -- DLMF 30.3: at parameter zero the eigenvalue of degree n is n(n + 1), whatever the order

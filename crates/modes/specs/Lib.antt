@@ -1,4 +1,3 @@
-pub mod Rows
 pub mod Coefficients
 pub mod Angular
 pub mod Radial

@@ -4,7 +4,6 @@ mod angular_pairs;
 mod expansions;
 mod first_kinds;
 mod radial_functions;
-mod rows;
 
 pub use angular_pairs::angular;
 pub use expansions::coefficients;

@@ -4,7 +4,7 @@ ghost use mathlib.Core.Path.{_≡_};
 ghost use Prim.Native.Nat.{ℕ};
 ghost use Rattle.segv.specs.Row.{slices, answer};
 ghost use Rattle.requests.specs.declared.checking.Kind.the-variants.{Prolate, Oblate};
-ghost use Rattle.modes.specs.Rows.{rowOf, dlmfOf};
+ghost use Rattle.rows.specs.Rows.{rowOf, dlmfOf};
 ghost use Rattle.requests.specs.Answers.{given};
 ghost use Rattle.modes.specs.Coefficients.{coefficientsOf};
 ghost use Rattle.modes.specs.Angular.{angularOf};

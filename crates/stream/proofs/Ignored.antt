@@ -17,7 +17,7 @@ use Rattle.requests.specs.declared.answers.Answer.the-variants.{Pair, Quadruple
 use Rattle.requests.specs.declared.operations.Operation.{Operation}
 use Rattle.requests.specs.declared.operations.Operation.the-variants.{Row, Angular, Radial, DlmfRow, FirstKind, Refused}
 use Rattle.requests.specs.Operations.{operationOf}
-use Rattle.modes.specs.Rows.{rowOf, dlmfOf, blankSlices}
+use Rattle.rows.specs.Rows.{rowOf, dlmfOf, blankSlices}
 use Rattle.modes.specs.Angular.{angularOf}
 use Rattle.modes.specs.Radial.{radialOf}
 use Rattle.modes.specs.FirstKind.{firstOf}

@@ -19,9 +19,9 @@ use Rattle.requests.specs.declared.checking.Mode.{Mode}
 use Rattle.requests.specs.declared.answers.SliceAnswer.{SliceAnswer}
 use Rattle.requests.specs.declared.answers.SliceAnswer.the-variants.{Filled, Refused}
 use Rattle.requests.specs.Answers.{given, outcome}
-use Rattle.modes.specs.Rows.{rowOf, blankSlices, dlmfOf}
+use Rattle.rows.specs.Rows.{rowOf, blankSlices, dlmfOf}
 use Rattle.requests.proofs.Laws.{Accepted}
-use Rattle.modes.proofs.Laws.{row-mode, dlmf-mode}
+use Rattle.rows.proofs.Laws.{row-mode, dlmf-mode}
 use Rattle.requests.proofs.Given.{given-filled, given-refused}
 use Rattle.stream.specs.Response.{rowLines, dLines, rowText, dlmfText}
 

@@ -1,9 +1,9 @@
--- `modes::rows::dlmf_row` meets its contract: the answer has the number that `dlmf_number` gives. Assumes nothing.
+-- `rows::dlmf_row` meets its contract: the answer has the number that `dlmf_number` gives. Assumes nothing.
 use mathlib.Core.Path.{ap}
 use Rattle.requests.specs.Answers.{outcome}
 use borrow.Author.Needs.{needs}
-use Rattle.modes.proofs.rows.dlmf_row.Statement.{statement}
-use Rattle.modes.proofs.rows.dlmf_row.Tie as tie
+use Rattle.rows.proofs.dlmf_row.Statement.{statement}
+use Rattle.rows.proofs.dlmf_row.Tie as tie
 
 dlmf-number-requires : tie.Need-dlmf-number-requires
 dlmf-number-requires c κs = search needs

@@ -1,13 +1,13 @@
--- `modes::rows::row_number` meets its contract. Each return is one refusal of the definition. Assumes nothing.
+-- `rows::row_number` meets its contract. Each return is one refusal of the definition. Assumes nothing.
 use mathlib.Core.Path.{sym, _∙_}
 use native.Mathlib.Omega.{arith}
 use borrow.Author.Tests.{le-leb, lt-leb}
-use Rattle.modes.specs.Rows.{tooShort}
+use Rattle.rows.specs.Rows.{tooShort}
 use Rattle.requests.proofs.Laws.{accepted}
-use Rattle.modes.proofs.Laws as laws
+use Rattle.rows.proofs.Laws as laws
 use borrow.Author.Needs.{needs}
-use Rattle.modes.proofs.rows.row_number.Statement.{statement}
-use Rattle.modes.proofs.rows.row_number.Tie as tie
+use Rattle.rows.proofs.row_number.Statement.{statement}
+use Rattle.rows.proofs.row_number.Tie as tie
 
 row-refusal-requires : tie.Need-row-refusal-requires
 row-refusal-requires c κs = search needs

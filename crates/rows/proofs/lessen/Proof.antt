@@ -1,13 +1,13 @@
--- `modes::rows::lessen` meets its contract. The invariant: the first j places are written. Assumes nothing.
+-- `rows::lessen` meets its contract. The invariant: the first j places are written. Assumes nothing.
 use Prim.Native.Nat.{_≤_, _-_}
 use mathlib.Core.Path.{_≡_, refl}
 use native.Mathlib.Omega.{arith}
 use native.Mathlib.Numerals.{add-one}
 use lib.ListN.{length, length-set}
-use Rattle.modes.specs.Rows.{lessened}
+use Rattle.rows.specs.Rows.{lessened}
 use borrow.Author.Needs.{needs}
-use Rattle.modes.proofs.rows.lessen.Statement.{statement}
-use Rattle.modes.proofs.rows.lessen.Tie as tie
+use Rattle.rows.proofs.lessen.Statement.{statement}
+use Rattle.rows.proofs.lessen.Tie as tie
 
 abbrev Inv-loop : tie.InvT-loop
 Inv-loop values x n out₀ j₀ out j = (j ≤ n) × (length out ≡ length out₀) × (out ≡ lessened values x j out₀)

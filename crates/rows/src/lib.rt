@@ -5,7 +5,7 @@ ghost use lib.ListN.{length, replicate};
 ghost use Rattle.segv.specs.Row.{slices, writtenRow, answer};
 ghost use Rattle.requests.specs.Refusals.{rowRefusal};
 ghost use Rattle.requests.specs.Answers.{outcome};
-ghost use Rattle.modes.specs.Rows.{zeroAt, rowIn, rowOf, lessened, dlmfOf};
+ghost use Rattle.rows.specs.Rows.{zeroAt, rowIn, rowOf, lessened, dlmfOf};
 use requests::Kind;
 use requests::Mode;
 use requests::SliceAnswer;

@@ -1,4 +1,4 @@
--- `modes::rows::dlmf_number` meets its contract. Each return is one case of the definition. Assumes nothing.
+-- `rows::dlmf_number` meets its contract. Each return is one case of the definition. Assumes nothing.
 use mathlib.Core.Path.{sym, ap, _∙_}
 use Prim.Native.Nat.{ℕ}
 use native.Mathlib.Omega.{arith}
@@ -6,10 +6,10 @@ use lib.ListN.{length, length-replicate}
 use Rattle.arith.specs.Double.{#0}
 use Rattle.expansion.specs.Sums as Sums
 use Rattle.requests.proofs.Laws.{accepted}
-use Rattle.modes.proofs.Laws as laws
+use Rattle.rows.proofs.Laws as laws
 use borrow.Author.Needs.{needs}
-use Rattle.modes.proofs.rows.dlmf_number.Statement.{statement}
-use Rattle.modes.proofs.rows.dlmf_number.Tie as tie
+use Rattle.rows.proofs.dlmf_number.Statement.{statement}
+use Rattle.rows.proofs.dlmf_number.Tie as tie
 
 row-refusal-requires : tie.Need-row-refusal-requires
 row-refusal-requires c κs = search needs

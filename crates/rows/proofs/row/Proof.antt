@@ -1,9 +1,9 @@
--- `modes::rows::row` meets its contract: the answer has the number that `row_number` gives. Assumes nothing.
+-- `rows::row` meets its contract: the answer has the number that `row_number` gives. Assumes nothing.
 use mathlib.Core.Path.{ap}
 use Rattle.requests.specs.Answers.{outcome}
 use borrow.Author.Needs.{needs}
-use Rattle.modes.proofs.rows.row.Statement.{statement}
-use Rattle.modes.proofs.rows.row.Tie as tie
+use Rattle.rows.proofs.row.Statement.{statement}
+use Rattle.rows.proofs.row.Tie as tie
 
 row-number-requires : tie.Need-row-number-requires
 row-number-requires c κs = search needs

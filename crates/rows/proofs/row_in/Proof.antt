@@ -1,10 +1,10 @@
--- `modes::rows::row_in` meets its contract: the two ways of the definition. Assumes nothing.
+-- `rows::row_in` meets its contract: the two ways of the definition. Assumes nothing.
 use native.Mathlib.Omega.{arith}
 use Rattle.requests.proofs.Laws.{accepted}
-use Rattle.modes.proofs.Laws as laws
+use Rattle.rows.proofs.Laws as laws
 use borrow.Author.Needs.{needs}
-use Rattle.modes.proofs.rows.row_in.Statement.{statement}
-use Rattle.modes.proofs.rows.row_in.Tie as tie
+use Rattle.rows.proofs.row_in.Statement.{statement}
+use Rattle.rows.proofs.row_in.Tie as tie
 
 cast-m : tie.Need-cast-m
 cast-m c = search needs

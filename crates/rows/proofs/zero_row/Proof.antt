@@ -1,14 +1,14 @@
--- `modes::rows::zero_row` meets its contract. The invariant: the first j places of each slice are written. Assumes nothing.
+-- `rows::zero_row` meets its contract. The invariant: the first j places of each slice are written. Assumes nothing.
 use Prim.Native.Nat.{_≤_, _-_}
 use mathlib.Core.Path.{_≡_, refl, ap}
 use native.Mathlib.Omega.{arith}
 use native.Mathlib.Numerals.{add-one}
 use lib.ListN.{length, length-set}
 use Rattle.segv.specs.Row.{slices, written, writtenRow}
-use Rattle.modes.specs.Rows.{zeroAt}
+use Rattle.rows.specs.Rows.{zeroAt}
 use borrow.Author.Needs.{needs}
-use Rattle.modes.proofs.rows.zero_row.Statement.{statement}
-use Rattle.modes.proofs.rows.zero_row.Tie as tie
+use Rattle.rows.proofs.zero_row.Statement.{statement}
+use Rattle.rows.proofs.zero_row.Tie as tie
 
 abbrev Inv-loop : tie.InvT-loop
 Inv-loop m n values₀ steps₀ lowers₀ uppers₀ substituted₀ j₀ value steps lower upper substituted j =
