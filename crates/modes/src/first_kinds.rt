@@ -16,7 +16,7 @@ fn first_refusal(mode: Mode, cv: f64, x: f64) -> u8
     if requests::no_parameter(x) {
         return 8;
     }
-    if mode.too_far(x) {
+    if requests::too_far(mode, x) {
         return 11;
     }
     0

@@ -113,14 +113,6 @@ impl Mode {
         self.c * self.c * sign(kind)
     }
 
-    // How many entries the matrix of a row has: document 01's K.
-    pub fn entries(self) -> u32
-        requires { ⌜ Refusals.rowRefusal self ≡ 0 ⌝ }
-        ensures { λ r. ⌜ r ≡ Refusals.entriesOf self ⌝ }
-    {
-        10 + arith::whole_part(self.h())
-    }
-
     // How many terms the expansion of a mode has: document 01's N.
     fn terms(self) -> u32
         requires { ⌜ Refusals.modeRefusal self ≡ 0 ⌝ }
@@ -154,18 +146,26 @@ impl Mode {
         }
         0
     }
+}
 
-    // Whether x is not zero, and 2N + m is above 251 or c * x above 200.
-    pub fn too_far(self, x: f64) -> bool
-        requires { ⌜ Refusals.modeRefusal self ≡ 0 ⌝ }
-        ensures { λ r. ⌜ r ≡ Refusals.tooFar self x ⌝ }
-    {
-        if x == 0.0 {
-            return false;
-        }
-        if Mode::ORDERS < 2 * self.terms() + (self.m as u32) {
-            return true;
-        }
-        Mode::ARGUMENT < self.c * x
+// How many entries the matrix of a row has: document 01's K.
+pub fn entries(mode: Mode) -> u32
+    requires { ⌜ Refusals.rowRefusal mode ≡ 0 ⌝ }
+    ensures { λ r. ⌜ r ≡ Refusals.entriesOf mode ⌝ }
+{
+    10 + arith::whole_part(mode.h())
+}
+
+// Whether x is not zero, and 2N + m is above 251 or c * x above 200.
+pub fn too_far(mode: Mode, x: f64) -> bool
+    requires { ⌜ Refusals.modeRefusal mode ≡ 0 ⌝ }
+    ensures { λ r. ⌜ r ≡ Refusals.tooFar mode x ⌝ }
+{
+    if x == 0.0 {
+        return false;
     }
+    if Mode::ORDERS < 2 * mode.terms() + (mode.m as u32) {
+        return true;
+    }
+    Mode::ARGUMENT < mode.c * x
 }

@@ -69,7 +69,7 @@ fn row_in(
         return 0;
     }
     let cs = mode.cs(kind);
-    let entries = mode.entries();
+    let entries = requests::entries(mode);
     segv::segv(
         m,
         n,

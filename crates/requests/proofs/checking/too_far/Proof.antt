@@ -1,8 +1,8 @@
--- `requests::checking::Mode::too_far` meets its contract. Each return is one case of the definition. Assumes nothing.
+-- `requests::checking::too_far` meets its contract. Each return is one case of the definition. Assumes nothing.
 use borrow.Author.Needs.{needs}
 use Rattle.requests.proofs.Laws as laws
-use Rattle.requests.proofs.checking.Mode.too_far.Statement.{statement}
-use Rattle.requests.proofs.checking.Mode.too_far.Tie as tie
+use Rattle.requests.proofs.checking.too_far.Statement.{statement}
+use Rattle.requests.proofs.checking.too_far.Tie as tie
 
 returns : tie.Need-returns
 returns c = laws.far-zero _ _ (c .if1 .taken)
