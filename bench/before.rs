@@ -6,7 +6,7 @@
 mod measure;
 mod row;
 
-use std::ffi::{CString, c_char, c_int, c_void};
+use std::ffi::{CStr, CString, c_char, c_int, c_void};
 use std::hint::black_box;
 
 use measure::{Measured, ROUNDS, seconds, time};
@@ -21,16 +21,30 @@ unsafe extern "C" {
     fn dlsym(library: *mut c_void, symbol: *const c_char) -> *mut c_void;
 }
 
-/// `bench_row` of the shared library at this path.
-fn load(path: &str) -> RowFunction {
+/// What one build has.
+#[derive(Clone, Copy)]
+struct Build {
+    row: RowFunction,
+    dlmf_row: RowFunction,
+}
+
+/// The functions of the shared library at this path.
+fn load(path: &str) -> Build {
     let file = CString::new(path).expect("a path");
-    // SAFETY: both names end with a zero, and `rows.rs` holds `bench_row` to this type.
-    unsafe {
-        let library = dlopen(file.as_ptr(), RTLD_NOW);
-        assert!(!library.is_null(), "{path} was not loaded");
-        let function = dlsym(library, c"bench_row".as_ptr());
-        assert!(!function.is_null(), "{path} has no bench_row");
-        std::mem::transmute::<*mut c_void, RowFunction>(function)
+    // SAFETY: the name ends with a zero.
+    let library = unsafe { dlopen(file.as_ptr(), RTLD_NOW) };
+    assert!(!library.is_null(), "{path} was not loaded");
+    let named = |name: &CStr| {
+        // SAFETY: the name ends with a zero, and `rows.rs` holds both functions to this type.
+        unsafe {
+            let function = dlsym(library, name.as_ptr());
+            assert!(!function.is_null(), "{path} has no {name:?}");
+            std::mem::transmute::<*mut c_void, RowFunction>(function)
+        }
+    };
+    Build {
+        row: named(c"bench_row"),
+        dlmf_row: named(c"bench_dlmf_row"),
     }
 }
 
@@ -42,6 +56,7 @@ enum Kind {
 use Kind::{Oblate, Prolate};
 
 struct Mode {
+    dlmf: bool,
     kind: Kind,
     m: u16,
     n: u16,
@@ -49,11 +64,27 @@ struct Mode {
 }
 
 const fn mode(kind: Kind, m: u16, n: u16, c: f64) -> Mode {
-    Mode { kind, m, n, c }
+    let dlmf = false;
+    Mode {
+        dlmf,
+        kind,
+        m,
+        n,
+        c,
+    }
 }
 
-/// The rows of `modes.rs`, the other kind of the small ones, and small c, where pivots are replaced.
-const ROWS: [Mode; 10] = [
+const fn dlmf(m: u16, n: u16, c: f64) -> Mode {
+    let dlmf = true;
+    Mode {
+        dlmf,
+        ..mode(Prolate, m, n, c)
+    }
+}
+
+/// The rows of `modes.rs`, the other kind of the small ones, and small c, where pivots are replaced;
+/// then DLMF's form, prolate only: Card 4 gave oblate ones other numbers, and the time is the same.
+const ROWS: [Mode; 13] = [
     mode(Prolate, 0, 0, 1.0),
     mode(Oblate, 0, 0, 1.0),
     mode(Prolate, 0, 5, 5.0),
@@ -64,6 +95,9 @@ const ROWS: [Mode; 10] = [
     mode(Oblate, 199, 398, 90.0),
     mode(Prolate, 0, 4, 1e-8),
     mode(Oblate, 4, 4, 1e-4),
+    dlmf(0, 0, 1.0),
+    dlmf(0, 5, 5.0),
+    dlmf(0, 199, 190.0),
 ];
 
 impl Mode {
@@ -73,10 +107,11 @@ impl Mode {
         self.c * (1.0 + (call % 1000) as f64 * 1e-6)
     }
 
-    fn row(&self, build: RowFunction, c: f64) -> Row {
+    fn row(&self, build: Build, c: f64) -> Row {
         let mut row = Row::new();
         let oblate = matches!(self.kind, Oblate);
-        let accepted = build(oblate, self.m, self.n, c, &mut row);
+        let function = if self.dlmf { build.dlmf_row } else { build.row };
+        let accepted = function(oblate, self.m, self.n, c, &mut row);
         assert!(accepted, "{} is refused", self.name());
         row
     }
@@ -87,11 +122,12 @@ impl Mode {
             1e-3.. => format!("{}", self.c),
             _ => format!("{:e}", self.c),
         };
-        format!("{kind} m {} n {} c {c}", self.m, self.n)
+        let form = if self.dlmf { "DLMF " } else { "" };
+        format!("{form}{kind} m {} n {} c {c}", self.m, self.n)
     }
 
     /// One line of the table.
-    fn measure(&self, before: RowFunction, after: RowFunction) {
+    fn measure(&self, before: Build, after: Build) {
         let once = seconds(|| drop((0..8).map(|i| self.row(before, self.c_of(i))).last())) / 8.0;
         let calls = (ROUND / once).ceil() as usize;
         for call in 0..calls.min(1000) {
@@ -99,13 +135,13 @@ impl Mode {
             let equal = self.row(before, c) == self.row(after, c);
             assert!(equal, "{}: at c {c} the rows differ", self.name());
         }
-        let run = |build: RowFunction| {
+        let run = |build: Build| {
             seconds(|| (0..calls).for_each(|i| drop(black_box(self.row(build, self.c_of(i))))))
         };
         let measured = Measured::rounds(ROUNDS, || run(after), || run(before));
         let each = calls as f64;
         println!(
-            "| {:<25} | {:>8} | {:>8} | {:.3} | {:.3} |",
+            "| {:<30} | {:>8} | {:>8} | {:.3} | {:.3} |",
             self.name(),
             time(measured.rust / each),
             time(measured.ours / each),

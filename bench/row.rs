@@ -2,7 +2,7 @@
 
 pub const PLACES: usize = 200;
 
-/// Doubles by their bits; past n − m every place is zero.
+/// Doubles by their bits; past n − m every place is zero, and in DLMF's form all but the values are.
 #[repr(C)]
 #[derive(PartialEq)]
 pub struct Row {
@@ -25,5 +25,6 @@ impl Row {
     }
 }
 
-/// The oblate row, or the prolate one, with the largest allowance of 16 bits; whether it was accepted.
+/// The oblate row, or the prolate one, in one form, with the largest allowance of 16 bits; whether it
+/// was accepted.
 pub type RowFunction = extern "C" fn(oblate: bool, m: u16, n: u16, c: f64, row: &mut Row) -> bool;
