@@ -37,7 +37,8 @@ rowOf kind x allowance l =
     let r = cond (tooShort x l) (answer 9 l) (rowIn kind x allowance l) in
     cond (eqb (rowRefusal x) 0) r (answer (rowRefusal x) l)
 
--- ---- DLMF's form: DLMF's eigenvalue plus γ² is the value of Flammer. γ² is c² for prolate modes and −c² for oblate ones, which is cs, so that the eigenvalue is the value less c × c or plus c × c
+-- ---- DLMF's form (Card 4)
+-- DLMF's eigenvalue plus γ² is Flammer's value, and γ² is c² for prolate modes, −c² for oblate ones: document 01's cs. So a prolate eigenvalue is the value less c × c, an oblate one the value plus c × c.
 
 -- room for a row of 200 modes
 unfoldable pub blankSlices : Slices
