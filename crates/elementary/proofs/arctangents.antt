@@ -1,4 +1,5 @@
 -- Lemmas for the arctangent.
+pub mod Range
 pub mod Sides
 pub mod Adding
 pub mod Moved

@@ -9,5 +9,6 @@ pub mod Halves
 pub mod Squares
 pub mod Steady
 pub mod Alternate
+pub mod Tiny
 pub mod Opening
 pub mod Follows

@@ -14,7 +14,7 @@ use Rattle.elementary.specs.Inside.Arctangent.{Good, NearlyAbove, Nearly
 use Rattle.elementary.proofs.circle.Signed.{apart-wider}
 use Rattle.elementary.proofs.circle.Squares.{twice-le}
 use Rattle.elementary.proofs.arctangents.Sides.{state-at, error-5}
-use Rattle.elementary.proofs.small.Low.{step-state}
+use Rattle.elementary.proofs.circle.Tiny.{step-state}
 use Rattle.elementary.proofs.arctangents.Moved.{cosine-moved, sine-moved}
 
 -- ---- two combinations that are small, and d is not

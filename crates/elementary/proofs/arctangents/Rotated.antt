@@ -10,7 +10,7 @@ use Rattle.elementary.specs.Inside.Fixed.{Apart}
 use Rattle.elementary.specs.Inside.Signed.{plus, less}
 use Rattle.elementary.specs.Inside.Circle.{State, IsCircle, error}
 use Rattle.elementary.specs.Inside.Arctangent.{IsFurther}
-use Rattle.elementary.proofs.small.Low.{step-state}
+use Rattle.elementary.proofs.circle.Tiny.{step-state}
 use Rattle.elementary.proofs.arctangents.Sides.{Stated, state-at}
 use Rattle.elementary.proofs.arctangents.Moved.{rotated}
 

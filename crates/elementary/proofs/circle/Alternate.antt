@@ -1,14 +1,13 @@
 -- The series of a square, from its end inwards: each step takes a multiple of what comes after from 1. Assumes nothing.
 use mathlib.Core.Path.{_≡_, sym, ap, _∙_, subst}
 use Prim.Native.Nat.{ℕ, suc, _+_, _-_, _*_, _/_, _^_, _≤_, _<_, zero-le}
-use native.Mathlib.Nat.{le-trans, le-of-eq, le-of-lt, le-refl, add-le-add, mul-add, add-mul, mul-comm, mul-assoc, mul-left-comm, mul-le-mul, mul-le-mul-left, mul-le-mul-right, le-of-mul-le-mul-right, le-of-mul-le-mul-left, mul-pos, zero-lt-suc, mul-one, zero-mul, mul-suc, suc-mul, mul-right-comm, div-mul-le-self, lt-div-mul-add, div-le-self, lt-of-le-of-lt, zero-add}
+use native.Mathlib.Nat.{le-trans, le-of-eq, le-of-lt, le-refl, add-le-add, mul-add, add-mul, mul-comm, mul-assoc, mul-left-comm, mul-le-mul, mul-le-mul-left, mul-le-mul-right, le-of-mul-le-mul-right, le-of-mul-le-mul-left, mul-pos, zero-lt-suc, mul-one, zero-mul, mul-suc, suc-mul, div-mul-le-self, lt-div-mul-add, zero-add}
 use native.Mathlib.Omega.{arith}
 use lib.Pow.{pow-pos}
 use Rattle.elementary.specs.Series.{Quarter, east, north, west, south, start, back, at, sum, part}
 use Rattle.elementary.specs.Inside.Fixed.{Apart, IsHigh}
 use Rattle.elementary.specs.Inside.Law.{Law}
 use Rattle.elementary.specs.Inside.Horner.{IsHorner, Alternating}
-use Rattle.elementary.specs.Inside.Small.{IsSquare}
 use Rattle.elementary.proofs.circle.Terms.{halves, gain}
 use Rattle.elementary.proofs.circle.Sums.{sum-first, sum-upto, sum-cong}
 
@@ -327,20 +326,3 @@ rooted G a b y q g0 small l h i j = (
 
         sums : (x z : ℕ) → x ≤ z → x + (2 * y + 1) ≤ z + 2 * G
         sums x z k = omega arith
-
-pub is-square : (m k q : ℕ) → m < 2 ^ 63 → IsHigh (m / 2 ^ k) (m / 2 ^ k) q → IsSquare m k q
-is-square m k q M i = go (m / 2 ^ k) (div-mul-le-self m (2 ^ k)) (lt-div-mul-add (pow-pos k)) (lt-of-le-of-lt (div-le-self m (2 ^ k)) M) i
-  where
-    go : (y : ℕ) → y * 2 ^ k ≤ m → m < y * 2 ^ k + 2 ^ k → y < 2 ^ 63 → IsHigh y y q → IsSquare m k q
-    go y l u s i = record {
-      most = le-of-mul-le-mul-right {k = 2 ^ 63} (le-trans (i .low) (mul-le-mul (le-of-lt s) (le-of-lt s))) (pow-pos 63);
-      near = λ a b e.
-          let r = rooted (2 ^ 63) a b y q (pow-pos 63) s
-          (le-of-mul-le-mul-right {k = 2 ^ k} (le-trans (le-of-eq (turn y b)) (le-trans (mul-le-mul-right b l) (le-of-eq (sym e ∙ sym (mul-assoc a (2 ^ 63) (2 ^ k)))))) (pow-pos k))
-          (le-of-mul-le-mul-right {k = 2 ^ k} (le-trans (le-of-eq (mul-assoc a (2 ^ 63) (2 ^ k) ∙ e)) (le-trans (mul-le-mul-right b (le-of-lt u)) (le-of-eq (ap (λ (x : ℕ). x * b) (sym (suc-mul y (2 ^ k))) ∙ sym (turn (suc y) b))))) (pow-pos k))
-          (i .low) (le-of-lt (i .high)) in
-          record { low = r .0; high = r .1 };
-    }
-      where
-        turn : (y b : ℕ) → y * b * 2 ^ k ≡ y * 2 ^ k * b
-        turn y b = mul-right-comm y b (2 ^ k)

@@ -1,8 +1,8 @@
 -- A double from 1 to 200 times 2 ^ 52, as a whole number. Assumes nothing.
 use mathlib.Core.Path.{_≡_, refl, sym, ap, _∙_, subst}
 use mathlib.Core.Bool.{Bool, true, false, not, _&&_, _||_, true≢false}
-use Prim.Native.Nat.{ℕ, zero, suc, _+_, _-_, _*_, _/_, _%_, _^_, _≤_, _<_, zero-le}
-use native.Mathlib.Nat.{le-trans, le-of-eq, le-of-lt, lt-irrefl, lt-of-lt-of-le, lt-of-le-of-lt, lt-of-not-le, mul-comm, mul-assoc, mul-right-comm, mul-left-comm, mul-le-mul-right, le-of-mul-le-mul-right, mul-pos, one-mul, mul-one, zero-mul, eq-of-mul-eq-mul-right, mod-eq-of-lt, zero-lt-suc, div-mul-le-self, lt-div-mul-add, suc-mul, lt-of-mul-lt-mul-right, mul-lt-mul-of-pos-right, eq-or-lt-of-le}
+use Prim.Native.Nat.{ℕ, zero, suc, _+_, _-_, _*_, _%_, _^_, _≤_, _<_, zero-le}
+use native.Mathlib.Nat.{le-trans, le-of-eq, le-of-lt, lt-irrefl, lt-of-lt-of-le, lt-of-le-of-lt, lt-of-not-le, mul-comm, mul-assoc, mul-right-comm, mul-left-comm, mul-le-mul-right, le-of-mul-le-mul-right, mul-pos, one-mul, mul-one, zero-mul, eq-of-mul-eq-mul-right, mod-eq-of-lt, zero-lt-suc, lt-of-mul-lt-mul-right, mul-lt-mul-of-pos-right, eq-or-lt-of-le}
 use native.Mathlib.Decide.{decLe}
 use native.Mathlib.Omega.{arith}
 use lib.IntN.{ℤ, pos}
@@ -12,11 +12,8 @@ use lib.Pow.{pow-add, pow-pos, pow-mono, shl-lt}
 use lib.Ieee.{Float, nan, inf, fin, up, down, lt, le, eq, binary64, ofBits}
 use lib.Ieee.Fits.{up-pos, down-pos, and-l}
 use lib.Ieee.Positive.{num, den, positive, between, le→cross}
-use lib.Ieee.Scale.{finite}
-use Rattle.elementary.proofs.fixed.Order.{above-of, below-finite}
+use Rattle.elementary.proofs.fixed.Zero.{Whole, apart-from, side}
 use Rattle.elementary.specs.Inside.Small.{IsSplit}
-use Rattle.elementary.specs.Inside.Arctangent.{IsFine}
-use Rattle.elementary.specs.Within as C
 use borrow.Author.Tests.{ltb-false}
 
 pub positive-of : (x : Float) → T (le (fin false 1 (pos 0)) x) → T (le x (fin false 25 (pos 3))) → T (positive x)
@@ -96,24 +93,6 @@ below-one (inf true) h k = absurd h
 below-one (inf false) h k = absurd k
 below-one (fin true m e) h k = absurd h
 below-one (fin false m e) h k = subst (λ (z : ℕ). m * up e < z) (one-mul (down e)) (subst (λ (z : ℕ). z < 1 * 1 * down e) (mul-one (m * up e)) (ltb→lt (m * up e * 1) (1 * 1 * down e) k))
-
--- zero
-apart-from : (a b : ℕ) → a ≡ 0 → 0 < b → a ≡ b → ⊥
-apart-from a b p q e = omega arith
-
-not-under : (a b : ℕ) → a ≡ 0 → 0 < b → b ≤ a → ⊥
-not-under a b p q e = omega arith
-
-side : (m : ℕ) (e : ℤ) → 0 < suc m * up e * 1
-side m e = mul-pos (mul-pos (zero-lt-suc m) (up-pos e)) (zero-lt-suc 0)
-
-pub is-zero : (x : Float) → T (le (fin false 0 (pos 0)) x) → lt (fin false 0 (pos 0)) x ≡ false → num x ≡ 0
-unfolding lt le
-is-zero nan h z = refl
-is-zero (inf s) h z = refl
-is-zero (fin s zero e) h z = zero-mul (up e)
-is-zero (fin false (suc m) e) h z = absurd (not-under (0 * 1 * down e) (suc m * up e * 1) (zero-mul (down e)) (side m e) (ltb-false (0 * 1 * down e) (suc m * up e * 1) z))
-is-zero (fin true (suc m) e) h z = absurd (apart-from (0 * 1 * down e) (suc m * up e * 1) (zero-mul (down e)) (side m e) (eqb→eq (0 * 1 * down e) (suc m * up e * 1) (and-l (eqb (0 * 1 * down e) (suc m * up e * 1)) (eqb (0 * 1 * down e) 0) h)))
 
 -- ---- from 2 ^ -27 to 1
 pub shifted : (m : ℕ) → m < 2 ^ 53 → m * 2 ^ 10 % 2 ^ 64 ≡ m * 2 ^ 10
@@ -199,12 +178,6 @@ tiny-of (fin false m e) h k = le-of-lt (lt-of-lt-of-le (ltb→lt (m * up e * 2 ^
 tiny-of (fin true zero e) h k = le-trans (le-of-eq (ap (λ (z : ℕ). z * 2 ^ 27) (zero-mul (up e)) ∙ zero-mul (2 ^ 27))) zero-le
 tiny-of (fin true (suc m) e) h k = absurd (apart-from (0 * 1 * down e) (suc m * up e * 1) (zero-mul (down e)) (side m e) (eqb→eq (0 * 1 * down e) (suc m * up e * 1) (and-l (eqb (0 * 1 * down e) (suc m * up e * 1)) (eqb (0 * 1 * down e) 0) h)))
 
--- a value that is not below zero is `plus` less nothing
-pub record Whole (x : Float) : Type 0 where
-  pub number : T (finite x)
-  pub more : C.plus x ≡ num x
-  pub none : C.less x ≡ 0
-
 pub whole-of : (x : Float) → T (le (fin false 0 (pos 0)) x) → T (lt x (ofBits binary64 0x3e40_0000_0000_0000)) → Whole x
 unfolding lt le ofBits
 whole-of nan h k = absurd k
@@ -245,105 +218,7 @@ from-of (fin true zero e) p d h k = absurd (none (0 * up e * down d + suc p * up
     none a h l = omega arith
 from-of (fin true (suc m) e) p d h k = absurd (apart-from (0 * 1 * down e) (suc m * up e * 1) (zero-mul (down e)) (side m e) (eqb→eq (0 * 1 * down e) (suc m * up e * 1) (and-l (eqb (0 * 1 * down e) (suc m * up e * 1)) (eqb (0 * 1 * down e) 0) h)))
 
--- ---- below 2, in units of 2 ^ -58
-pub two-positive : (x : Float) → T (lt (fin false 0 (pos 0)) x) → T (lt x (fin false 1 (pos 1))) → T (positive x)
-two-positive x h k = above-of x h (below-finite x false 1 (pos 1) k)
-
-pub below-two : (x : Float) → T (lt (fin false 0 (pos 0)) x) → T (lt x (fin false 1 (pos 1))) → num x < 2 * den x
-unfolding lt
-below-two nan h k = absurd h
-below-two (inf true) h k = absurd h
-below-two (inf false) h k = absurd k
-below-two (fin true m e) h k = absurd h
-below-two (fin false m e) h k = subst (λ (z : ℕ). z < 1 * 2 * down e) (mul-one (m * up e)) (ltb→lt (m * up e * 1) (1 * 2 * down e) k)
-
--- Z is m * 2 ^ 6 * 2 ^ e, and a / b is Z / 2 ^ 2154
-fine-of : (a b y Z : ℕ) → 0 < b → a < 2 * b → a * (2 ^ 1074 * 2 ^ 1074) * 2 ^ 6 ≡ Z * b → y * 2 ^ 2096 ≤ Z → Z ≤ suc y * 2 ^ 2096 → IsFine a b y
-fine-of a b y Z B h v l u = record {
-  most = le-of-mul-le-mul-right {k = b} (le-trans low (le-trans (mul-le-mul-right (2 ^ 58) (le-of-lt h)) (le-of-eq turn))) B;
-  range = le-of-lt h;
-  low = low;
-  high = le-of-mul-le-mul-right {k = 2 ^ 2096} (le-trans (le-of-eq (same ∙ v)) (le-trans (mul-le-mul-right b u) (le-of-eq (mul-right-comm (suc y) (2 ^ 2096) b)))) (pow-pos 2096);
-}
-  where
-    same : a * 2 ^ 58 * 2 ^ 2096 ≡ a * (2 ^ 1074 * 2 ^ 1074) * 2 ^ 6
-    same = mul-assoc a (2 ^ 58) (2 ^ 2096) ∙ sym (mul-assoc a (2 ^ 1074 * 2 ^ 1074) (2 ^ 6))
-
-    low : y * b ≤ a * 2 ^ 58
-    low = le-of-mul-le-mul-right {k = 2 ^ 2096} (le-trans (le-of-eq (mul-right-comm y b (2 ^ 2096))) (le-trans (mul-le-mul-right b l) (le-of-eq (sym v ∙ sym same)))) (pow-pos 2096)
-
-    turn : 2 * b * 2 ^ 58 ≡ 2 ^ 59 * b
-    turn = mul-right-comm 2 b (2 ^ 58)
-
-module _ (a b m e : ℕ) (B : 0 < b) (h : a < 2 * b) (l : 2 ^ 52 ≤ m) (u : m < 2 ^ 53) (v : a * (2 ^ 1074 * 2 ^ 1074) ≡ m * 2 ^ e * b) where
-  moved : a * (2 ^ 1074 * 2 ^ 1074) * 2 ^ 6 ≡ m * 2 ^ 6 * 2 ^ e * b
-  moved = ap (λ (z : ℕ). z * 2 ^ 6) v ∙ turn (2 ^ e) (2 ^ 6)
-    where
-      turn : (p q : ℕ) → m * p * b * q ≡ m * q * p * b
-      turn p q = simp (mul-assoc, mul-comm, mul-left-comm)
-
-  pub fine-none : e < 2033 → IsFine a b 0
-  fine-none k = fine-of a b 0 (m * 2 ^ 6 * 2 ^ e) B h moved (le-trans (le-of-eq (zero-mul (2 ^ 2096))) zero-le) (le-trans (le-of-lt (shl-lt 59 e (wide m u))) (le-trans (pow-mono {i = 59 + e} {j = 2096} (go e k)) (le-of-eq (sym (one-mul (2 ^ 2096))))))
-    where
-      wide : (m : ℕ) → m < 2 ^ 53 → m * 2 ^ 6 < 2 ^ 59
-      wide m u = omega arith
-
-      go : (e : ℕ) → e < 2033 → 59 + e ≤ 2096
-      go e k = omega arith
-
-  pub fine-upto : e ≤ 2096
-  fine-upto = elim (decLe e 2096) [ yes y ↦ y | no f ↦ absurd (lt-irrefl (m * 2 ^ e) (lt-of-lt-of-le high (le-trans (pow-mono {i = 2149} {j = 52 + e} (more e (lt-of-not-le f))) (le-trans (le-of-eq (pow-add 2 52 e)) (mul-le-mul-right (2 ^ e) l))))) ]
-    where
-      more : (e : ℕ) → 2096 < e → 2149 ≤ 52 + e
-      more e g = omega arith
-
-      high : m * 2 ^ e < 2 ^ 2149
-      high = lt-of-mul-lt-mul-right b (lt-of-le-of-lt (le-of-eq (sym v)) (lt-of-lt-of-le (mul-lt-mul-of-pos-right h (mul-pos (pow-pos 1074) (pow-pos 1074))) (le-of-eq (mul-right-comm 2 b (2 ^ 1074 * 2 ^ 1074)))))
-
-  pub fine-some : IsFine a b (m * 2 ^ 6 % 2 ^ 64 / 2 ^ (2096 - e))
-  fine-some = subst (λ (z : ℕ). IsFine a b (z / g)) (sym (mod-eq-of-lt (wide m u))) (fine-of a b (m * 2 ^ 6 / g) (m * 2 ^ 6 * 2 ^ e) B h moved lower upper)
-    where
-      wide : (m : ℕ) → m < 2 ^ 53 → m * 2 ^ 6 < 2 ^ 64
-      wide m u = omega arith
-
-      g : ℕ
-      g = 2 ^ (2096 - e)
-
-      back : (e : ℕ) → e ≤ 2096 → 2096 - e + e ≡ 2096
-      back e l = omega arith
-
-      joined : (y : ℕ) → y * g * 2 ^ e ≡ y * 2 ^ 2096
-      joined y = mul-assoc y g (2 ^ e) ∙ ap (λ (z : ℕ). y * z) (sym (pow-add 2 (2096 - e) e) ∙ ap (λ (z : ℕ). 2 ^ z) (back e fine-upto))
-
-      lower : m * 2 ^ 6 / g * 2 ^ 2096 ≤ m * 2 ^ 6 * 2 ^ e
-      lower = le-trans (le-of-eq (sym (joined (m * 2 ^ 6 / g)))) (mul-le-mul-right (2 ^ e) (div-mul-le-self (m * 2 ^ 6) g))
-
-      upper : m * 2 ^ 6 * 2 ^ e ≤ suc (m * 2 ^ 6 / g) * 2 ^ 2096
-      upper = le-trans (mul-le-mul-right (2 ^ e) (le-trans (le-of-lt (lt-div-mul-add (pow-pos (2096 - e)))) (le-of-eq (sym (suc-mul (m * 2 ^ 6 / g) g))))) (le-of-eq (joined (suc (m * 2 ^ 6 / g))))
-
-pub shift-of : (e : ℕ) → 2033 ≤ e → 2096 - e < 64
-shift-of e h = omega arith
-
-pub less-none : (x : Float) → T (positive x) → C.less x ≡ 0
-less-none nan p = absurd p
-less-none (inf s) p = absurd p
-less-none (fin true m e) p = absurd p
-less-none (fin false m e) p = refl
-
-pub whole-zero : (x : Float) → T (le (fin false 0 (pos 0)) x) → T (lt x (inf false)) → lt (fin false 0 (pos 0)) x ≡ false → Whole x
-unfolding lt le
-whole-zero nan h k z = absurd h
-whole-zero (inf true) h k z = absurd h
-whole-zero (inf false) h k z = absurd k
-whole-zero (fin false m e) h k z = record { number = tt; more = refl; none = refl }
-whole-zero (fin true zero e) h k z = record { number = tt; more = sym (zero-mul (up e)); none = zero-mul (up e) }
-whole-zero (fin true (suc m) e) h k z = absurd (apart-from (0 * 1 * down e) (suc m * up e * 1) (zero-mul (down e)) (side m e) (eqb→eq (0 * 1 * down e) (suc m * up e * 1) (and-l (eqb (0 * 1 * down e) (suc m * up e * 1)) (eqb (0 * 1 * down e) 0) h)))
-
 -- ---- what tests say
-pub clash : (b : Bool) → b ≡ false → T b → ⊥
-clash true e t = true≢false e
-clash false e t = t
-
 pub inside : (a b : Bool) → a ≡ true → b ≡ true → T (not (a && b)) → ⊥
 inside true true p q t = t
 inside true false p q t = absurd (true≢false (sym q))

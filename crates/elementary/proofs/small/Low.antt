@@ -2,10 +2,9 @@
 use mathlib.Core.Path.{_≡_, refl, sym, ap, _∙_, subst}
 use mathlib.Core.Bool.{true, false}
 use Prim.Native.Nat.{ℕ, suc, _+_, _-_, _*_, _/_, _^_, _≤_, _<_}
-use native.Mathlib.Nat.{eq-of-mul-eq-mul-right, mul-one, le-trans, le-of-eq, le-of-lt, le-refl, add-le-add, mul-add, add-mul, mul-comm, mul-assoc, mul-left-comm, mul-right-comm, mul-le-mul, mul-le-mul-left, mul-le-mul-right, le-of-mul-le-mul-right, le-of-mul-le-mul-left, mul-pos, zero-lt-suc, one-mul, zero-mul, mul-zero, lt-of-lt-of-le, mul-mul-mul-comm}
+use native.Mathlib.Nat.{eq-of-mul-eq-mul-right, mul-one, le-trans, le-of-eq, le-of-lt, le-refl, add-le-add, mul-add, add-mul, mul-comm, mul-assoc, mul-left-comm, mul-right-comm, mul-le-mul-left, mul-le-mul-right, le-of-mul-le-mul-right, le-of-mul-le-mul-left, mul-pos, zero-lt-suc, one-mul, zero-mul, mul-zero, lt-of-lt-of-le}
 use native.Mathlib.Omega.{arith}
 use lib.Pow.{pow-pos, pow-add}
-use lib.Dec.{leb→le}
 use lib.IntN.{pos}
 use lib.Ieee.{Float, nan, inf, fin, up, down}
 use lib.Ieee.Positive.{num, den, den-pos}
@@ -13,17 +12,16 @@ use Rattle.elementary.specs.Series.{Quarter, east, north, west, south, s
 use Rattle.elementary.specs.Series.{term}
 use Rattle.elementary.specs.Within.{Within}
 use Rattle.elementary.specs.Within as C
-use Rattle.elementary.specs.Arctangent.{NotBelow}
 use Rattle.elementary.specs.Inside.Fixed.{Apart, IsHigh, Lies}
 use Rattle.elementary.specs.Inside.Signed.{plus, less}
-use Rattle.elementary.specs.Inside.Circle.{State}
 use Rattle.elementary.specs.Inside.Horner.{IsRoot, Alternating}
 use Rattle.elementary.specs.Inside.Small.{IsSplit}
 use Rattle.elementary.proofs.circle.Terms.{term-law}
-use Rattle.elementary.proofs.circle.Alternate.{two-law, east-further, west-further, east-most, west-most, from-zero, from-one}
+use Rattle.elementary.proofs.circle.Alternate.{east-further, west-further, east-most, west-most, from-zero, from-one}
+use Rattle.elementary.proofs.circle.Tiny.{small, third, norths, souths, far}
 use Rattle.elementary.proofs.circle.Signed.{apart-times}
 use Rattle.elementary.proofs.sines.Doubles.{within-of}
-use Rattle.elementary.proofs.sines.Range.{Whole}
+use Rattle.elementary.proofs.fixed.Zero.{Whole}
 
 -- ---- a share of i / j that is not above 1 is within 1
 pub narrower : (r : Float) (P Q U i j : ℕ) → 0 < j → i ≤ j → Within r P Q U i j → Within r P Q U 1 1
@@ -302,30 +300,11 @@ sine-low r a b q m k g p n b0 s sq t i l v = record {
 
 -- ---- below 2 ^ -27: 1 and x
 module _ (a b n : ℕ) (b0 : 0 < b) (tiny : a * 2 ^ 27 ≤ b) (l : 600 ≤ n) where
-  small : a ≤ b
-  small = go a b tiny
-    where
-      go : (a b : ℕ) → a * 2 ^ 27 ≤ b → a ≤ b
-      go a b h = omega arith
-
   abbrev tu : ℕ → ℕ
   tu = term a b n
 
-  -- the square of the argument is at most 2 ^ -54
-  squared : 2 ^ 54 * (a * a) ≤ b * b
-  squared = le-trans (le-of-eq (go a)) (mul-le-mul tiny tiny)
-    where
-      go : (a : ℕ) → 2 ^ 54 * (a * a) ≡ a * 2 ^ 27 * (a * 2 ^ 27)
-      go a = sym (mul-mul-mul-comm a (2 ^ 27) a (2 ^ 27) ∙ mul-comm (a * a) (2 ^ 27 * 2 ^ 27))
-
-  third : (k : ℕ) → suc k < n → 2 ^ 54 * (suc k * suc (suc k) * tu (suc (suc k))) ≤ tu k
-  third k h = le-of-mul-le-mul-left {k = b * b} (le-trans (le-of-eq (mul-left-comm (b * b) (2 ^ 54) (suc k * suc (suc k) * tu (suc (suc k))) ∙ ap (λ (z : ℕ). 2 ^ 54 * z) (two-law tu a b n k (term-law a b n) h) ∙ sym (mul-assoc (2 ^ 54) (a * a) (tu k)))) (mul-le-mul-right (tu k) squared)) (mul-pos b0 b0)
-
   two-off : (n : ℕ) → 600 ≤ n → n ≡ suc (suc (n - 2))
   two-off n l = omega arith
-
-  three-off : (n : ℕ) → 600 ≤ n → n - 1 ≡ suc (suc (n - 3))
-  three-off n l = omega arith
 
   pub one-is : Within (fin false 1 (pos 0)) (part (term a b n) n east) (part (term a b n) n west) (term a b n 0) 1 1
   one-is = record {
@@ -347,13 +326,13 @@ module _ (a b n : ℕ) (b0 : 0 < b) (tiny : a * 2 ^ 27 ≤ b) (l : 600 ≤ n) wh
       wests = from-zero tu n west ∙ ap (λ (x : ℕ). part (λ (j : ℕ). tu (0 + j)) x west) (two-off n l) ∙ west-further tu 0 (n - 2)
 
       first : part (λ (j : ℕ). tu (2 + j)) (n - 2) west ≤ tu 2
-      first = west-most tu a b n 2 (n - 2) b0 small (term-law a b n) (zero-lt-suc 1) (fits n l)
+      first = west-most tu a b n 2 (n - 2) b0 (small a b n b0 tiny l) (term-law a b n) (zero-lt-suc 1) (fits n l)
 
       second : part (λ (j : ℕ). tu (2 + j)) (n - 2) east ≤ 2 * tu 2
-      second = east-most tu a b n 2 (n - 2) b0 small (term-law a b n) (zero-lt-suc 1) (fits n l)
+      second = east-most tu a b n 2 (n - 2) b0 (small a b n b0 tiny l) (term-law a b n) (zero-lt-suc 1) (fits n l)
 
       drop : 2 ^ 54 * (2 * tu 2) ≤ tu 0
-      drop = third 0 (more n l)
+      drop = third a b n b0 tiny l 0 (more n l)
 
       go-under : (U t p q : ℕ) → 2 ^ 54 * (2 * t) ≤ U → q ≤ 2 * t → 2 ^ 40 * 1 * (1 * 1 * U + q * 1) ≤ 2 ^ 40 * 1 * ((U + p) * 1 + 0 * U) + 1 * (1 * U)
       go-under U t p q h k = omega (arith, h, k)
@@ -362,18 +341,6 @@ module _ (a b n : ℕ) (b0 : 0 < b) (tiny : a * 2 ^ 27 ≤ b) (l : 600 ≤ n) wh
       go-over U t p q h k = omega (arith, h, k)
 
   -- the sine, with x itself as a / b
-  norths : part tu n north ≡ tu 1 + part (λ (j : ℕ). tu (3 + j)) (n - 3) west
-  norths = ap (λ (x : ℕ). part tu x north) (longer n l) ∙ from-one tu (n - 1) north refl ∙ ap (λ (x : ℕ). part (λ (j : ℕ). tu (1 + j)) x east) (three-off n l) ∙ east-further tu 1 (n - 3)
-    where
-      longer : (n : ℕ) → 600 ≤ n → n ≡ suc (n - 1)
-      longer n l = omega arith
-
-  souths : part tu n south ≡ part (λ (j : ℕ). tu (3 + j)) (n - 3) east
-  souths = ap (λ (x : ℕ). part tu x south) (longer n l) ∙ from-one tu (n - 1) south refl ∙ ap (λ (x : ℕ). part (λ (j : ℕ). tu (1 + j)) x west) (three-off n l) ∙ west-further tu 1 (n - 3)
-    where
-      longer : (n : ℕ) → 600 ≤ n → n ≡ suc (n - 1)
-      longer n l = omega arith
-
   abbrev Ww : ℕ
   Ww = part (λ (j : ℕ). tu (3 + j)) (n - 3) west
 
@@ -386,19 +353,13 @@ module _ (a b n : ℕ) (b0 : 0 < b) (tiny : a * 2 ^ 27 ≤ b) (l : 600 ≤ n) wh
   own-first : b * (a * tu 0) ≡ b * b * tu 1
   own-first = ap (λ (x : ℕ). b * x) (sym (ap (λ (x : ℕ). b * x) (sym (one-mul (tu 1))) ∙ term-law a b n 0 (lt-of-lt-of-le (zero-lt-suc 599) l))) ∙ sym (mul-assoc b b (tu 1))
 
-  far : 2 ^ 54 * (2 * 3 * tu 3) ≤ tu 1
-  far = third 1 (more n l)
-    where
-      more : (n : ℕ) → 600 ≤ n → 2 < n
-      more n l = omega arith
-
   numbers : (2 ^ 40 * (b * (a * tu 0) + b * (b * Ee)) ≤ 2 ^ 40 * (b * (b * (tu 1 + Ww))) + a * (b * tu 0)) × (2 ^ 40 * (b * (b * (tu 1 + Ww))) ≤ 2 ^ 40 * (b * (a * tu 0) + b * (b * Ee)) + a * (b * tu 0))
   numbers =
       rw (mul-left-comm a b (tu 0), own-first, ← mul-assoc b b Ee, ← mul-assoc b b (tu 1 + Ww), mul-add (b * b) (tu 1) Ww)
       (go (b * b * tu 1) (b * b * tu 3) (b * b * Ww) (b * b * Ee)
-      (le-trans (le-of-eq (turn (b * b) (tu 3))) (mul-le-mul-left (b * b) far))
-      (mul-le-mul-left (b * b) (west-most tu a b n 3 (n - 3) b0 small (term-law a b n) (zero-lt-suc 2) (fits-3 n l)))
-      (le-trans (mul-le-mul-left (b * b) (east-most tu a b n 3 (n - 3) b0 small (term-law a b n) (zero-lt-suc 2) (fits-3 n l))) (le-of-eq (mul-left-comm (b * b) 2 (tu 3)))))
+      (le-trans (le-of-eq (turn (b * b) (tu 3))) (mul-le-mul-left (b * b) (far a b n b0 tiny l)))
+      (mul-le-mul-left (b * b) (west-most tu a b n 3 (n - 3) b0 (small a b n b0 tiny l) (term-law a b n) (zero-lt-suc 2) (fits-3 n l)))
+      (le-trans (mul-le-mul-left (b * b) (east-most tu a b n 3 (n - 3) b0 (small a b n b0 tiny l) (term-law a b n) (zero-lt-suc 2) (fits-3 n l))) (le-of-eq (mul-left-comm (b * b) 2 (tu 3)))))
     where
       turn : (B t : ℕ) → 2 ^ 54 * (6 * (B * t)) ≡ B * (2 ^ 54 * (2 * 3 * t))
       turn B t = sym (mul-left-comm B (2 ^ 54) (6 * t) ∙ ap (λ (z : ℕ). 2 ^ 54 * z) (mul-left-comm B 6 t))
@@ -412,74 +373,3 @@ own-is x n w t l = record {
   under = rw (norths (num x) (den x) n (den-pos x) t l, souths (num x) (den x) n (den-pos x) t l) (share-under (num x) (den x) _ _ (term (num x) (den x) n 0) (num x) (den x) (C.plus x) (C.less x) (w .more) (w .none) (numbers (num x) (den x) n (den-pos x) t l .0));
   over = rw (norths (num x) (den x) n (den-pos x) t l, souths (num x) (den x) n (den-pos x) t l) (share-over (num x) (den x) _ _ (term (num x) (den x) n 0) (num x) (den x) (C.plus x) (C.less x) (w .more) (w .none) (numbers (num x) (den x) n (den-pos x) t l .1));
 }
-
--- ---- the sine of 2 ^ -40 is not negative: the arctangent of zero
-pub zero-is : (b n : ℕ) → 600 ≤ n → NotBelow 0 b (2 ^ 18) (2 ^ 58) n
-zero-is b n l = rw (norths a₀ b₀ n (pow-pos 58) tiny l, souths a₀ b₀ n (pow-pos 58) tiny l, mul-zero (part (term a₀ b₀ n) n east), mul-zero (part (term a₀ b₀ n) n west)) (go (mul-le-mul-right b (le-trans (east-most (term a₀ b₀ n) a₀ b₀ n 3 (n - 3) (pow-pos 58) (leb→le a₀ b₀ tt) (term-law a₀ b₀ n) (zero-lt-suc 2) (fits n l)) (le-trans (sums (term a₀ b₀ n 3) (term a₀ b₀ n 1) (far a₀ b₀ n (pow-pos 58) tiny l)) (more (term a₀ b₀ n 1) (part (λ (j : ℕ). term a₀ b₀ n (3 + j)) (n - 3) west))))))
-  where
-    a₀ : ℕ
-    a₀ = 2 ^ 18
-
-    b₀ : ℕ
-    b₀ = 2 ^ 58
-
-    tiny : 2 ^ 18 * 2 ^ 27 ≤ 2 ^ 58
-    tiny = leb→le (2 ^ 18 * 2 ^ 27) (2 ^ 58) tt
-
-    fits : (n : ℕ) → 600 ≤ n → 3 + (n - 3) ≤ n
-    fits n l = omega arith
-
-    sums : (x y : ℕ) → 2 ^ 54 * (2 * 3 * x) ≤ y → 2 * x ≤ y
-    sums x y h = omega arith
-
-    more : (x y : ℕ) → x ≤ x + y
-    more x y = omega arith
-
-    go : {x y : ℕ} → x ≤ y → 0 + x ≤ y + 0
-    go h = omega (arith, h)
-
--- ---- the cosine and the sine of 2 ^ -42
-pub step-state : (a₀ : ℕ) → a₀ * 2 ^ 27 ≤ 2 ^ 58 → (n : ℕ) → 600 ≤ n → State (term a₀ (2 ^ 58) n) (term a₀ (2 ^ 58) n 0) n (2 ^ 63) 1024 (2 ^ 63) 0 (a₀ * 2 ^ 5) 0
-step-state a₀ tiny n l = record {
-  cosine = rw (easts, wests) (go-cos (v 0) (v 2) (part (λ (j : ℕ). v (2 + j)) (n - 2) west) (part (λ (j : ℕ). v (2 + j)) (n - 2) east) (third a₀ b₀ n (pow-pos 58) tiny l 0 (more n l)) (west-most v a₀ b₀ n 2 (n - 2) (pow-pos 58) upto (term-law a₀ b₀ n) (zero-lt-suc 1) (fits-2 n l)) (east-most v a₀ b₀ n 2 (n - 2) (pow-pos 58) upto (term-law a₀ b₀ n) (zero-lt-suc 1) (fits-2 n l)));
-  sine = rw (norths a₀ b₀ n (pow-pos 58) tiny l, souths a₀ b₀ n (pow-pos 58) tiny l) (go-sin (v 0) (v 1) (v 3) (part (λ (j : ℕ). v (3 + j)) (n - 3) west) (part (λ (j : ℕ). v (3 + j)) (n - 3) east) (term-law a₀ b₀ n 0 (lt-of-lt-of-le (zero-lt-suc 599) l)) (far a₀ b₀ n (pow-pos 58) tiny l) (west-most v a₀ b₀ n 3 (n - 3) (pow-pos 58) upto (term-law a₀ b₀ n) (zero-lt-suc 2) (fits-4 n l)) (east-most v a₀ b₀ n 3 (n - 3) (pow-pos 58) upto (term-law a₀ b₀ n) (zero-lt-suc 2) (fits-4 n l)));
-}
-  where
-    b₀ : ℕ
-    b₀ = 2 ^ 58
-
-    v : ℕ → ℕ
-    v = term a₀ b₀ n
-
-    upto : a₀ ≤ b₀
-    upto = go a₀ tiny
-      where
-        go : (a : ℕ) → a * 2 ^ 27 ≤ 2 ^ 58 → a ≤ 2 ^ 58
-        go a h = omega arith
-
-    fits-2 : (n : ℕ) → 600 ≤ n → 2 + (n - 2) ≤ n
-    fits-2 n l = omega arith
-
-    fits-4 : (n : ℕ) → 600 ≤ n → 3 + (n - 3) ≤ n
-    fits-4 n l = omega arith
-
-    more : (n : ℕ) → 600 ≤ n → 1 < n
-    more n l = omega arith
-
-    two-off′ : (n : ℕ) → 600 ≤ n → n ≡ suc (suc (n - 2))
-    two-off′ n l = omega arith
-
-    easts : part v n east ≡ v 0 + part (λ (j : ℕ). v (2 + j)) (n - 2) west
-    easts = from-zero v n east ∙ ap (λ (x : ℕ). part (λ (j : ℕ). v (0 + j)) x east) (two-off′ n l) ∙ east-further v 0 (n - 2)
-
-    wests : part v n west ≡ part (λ (j : ℕ). v (2 + j)) (n - 2) east
-    wests = from-zero v n west ∙ ap (λ (x : ℕ). part (λ (j : ℕ). v (0 + j)) x west) (two-off′ n l) ∙ west-further v 0 (n - 2)
-
-    go-cos : (U t p q : ℕ) → 2 ^ 54 * (1 * 2 * t) ≤ U → p ≤ t → q ≤ 2 * t → Apart (2 ^ 63 * U) (0 * U) ((U + p) * 2 ^ 63) (q * 2 ^ 63) (1024 * U)
-    go-cos U t p q h k m = record { under = omega (arith, h, k, m); over = omega (arith, h, k, m) }
-
-    go-sin : (U w t p q : ℕ) → 2 ^ 58 * (1 * w) ≡ a₀ * U → 2 ^ 54 * (2 * 3 * t) ≤ w → p ≤ t → q ≤ 2 * t → Apart (a₀ * 2 ^ 5 * U) (0 * U) ((w + p) * 2 ^ 63) (q * 2 ^ 63) (1024 * U)
-    go-sin U w t p q e h k m = rw (mul-right-comm a₀ (2 ^ 5) U) (close (a₀ * U) (le-trans (mul-le-mul-right U upto) (le-of-eq refl)) e)
-      where
-        close : (x : ℕ) → x ≤ 2 ^ 58 * U → 2 ^ 58 * (1 * w) ≡ x → Apart (x * 2 ^ 5) (0 * U) ((w + p) * 2 ^ 63) (q * 2 ^ 63) (1024 * U)
-        close x b e = record { under = omega (arith, e, h, k, m, b); over = omega (arith, e, h, k, m, b) }

@@ -1,7 +1,7 @@
 -- `arctangents::fine` meets its contract. Assumes nothing.
 use lib.Dec.{T}
 use lib.Ieee.Positive.{positive, num, den, den-pos}
-use Rattle.elementary.proofs.sines.Range.{two-positive, below-two, fine-none, fine-upto, fine-some, shift-of}
+use Rattle.elementary.proofs.arctangents.Range.{two-positive, below-two, fine-none, fine-upto, fine-some, shift-of}
 use Rattle.elementary.proofs.arctangents.fine.Statement.{statement}
 use Rattle.elementary.proofs.arctangents.fine.Tie as tie
 

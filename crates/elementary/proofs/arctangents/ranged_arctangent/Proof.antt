@@ -7,8 +7,7 @@ use lib.Dec.{T, leb→le}
 use lib.Ieee.{ofBits}
 use lib.Ieee.Positive.{num, den}
 use Rattle.elementary.specs.Arctangent.{NotBelow}
-use Rattle.elementary.proofs.small.Low.{zero-is}
-use Rattle.elementary.proofs.sines.Range.{is-zero, whole-zero}
+use Rattle.elementary.proofs.arctangents.Range.{is-zero, whole-zero, zero-is}
 use Rattle.elementary.proofs.arctangents.ranged_arctangent.Statement.{statement}
 use Rattle.elementary.proofs.arctangents.ranged_arctangent.Tie as tie
 

@@ -4,7 +4,7 @@ use native.Mathlib.Nat.{div-le-self}
 use native.Mathlib.Omega.{arith}
 use borrow.Author.Needs.{needs}
 use Rattle.elementary.specs.Inside.SmallValues as SmallValues
-use Rattle.elementary.proofs.circle.Alternate.{is-square}
+use Rattle.elementary.proofs.small.Square.{is-square}
 use Rattle.elementary.proofs.small.own_square.Statement.{statement}
 use Rattle.elementary.proofs.small.own_square.Tie as tie
 
