@@ -5,8 +5,8 @@ use Rattle.arith.specs.Choice.{abs, lesser, greater}
 use Rattle.arith.specs.Powers.{power}
 use Rattle.arith.specs.Root.{sqrt}
 use Rattle.arith.specs.Inside.Scaled as Scaled
-use Rattle.elementary.specs.Inside.FixedValues as Fixed
-use Rattle.elementary.specs.Inside.CircleValues as Circle
+use Rattle.circle.specs.Inside.FixedValues as Fixed
+use Rattle.circle.specs.Inside.CircleValues as Circle
 use Rattle.elementary.specs.Inside.SmallValues as Small
 use Rattle.elementary.specs.Inside.SineValues as Sines
 use Rattle.elementary.specs.Inside.LogarithmValues as Logarithms

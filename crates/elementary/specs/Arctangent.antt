@@ -10,8 +10,8 @@ use lib.Ieee.{Float, nan, inf, fin, le, lt}
 use lib.Ieee.Positive.{num, den}
 use lib.Ieee.Scale.{finite}
 use Rattle.arith.specs.Double.{#π/2}
-use Rattle.elementary.specs.Series.{east, north, west, south, part, term}
-use Rattle.elementary.specs.Within.{less}
+use Rattle.circle.specs.Series.{east, north, west, south, part, term}
+use Rattle.circle.specs.Within.{less}
 
 -- sin t ≤ a / b * cos t, and the other way round, for t = p / q, by the sums up to the n-th term
 abbrev pub NotAbove : ℕ → ℕ → ℕ → ℕ → ℕ → Type 0

@@ -8,8 +8,8 @@ use lib.Ieee.{Float, ofBits}
 use lib.Ieee.Positive.{num, den}
 use lib.Ieee.Scale.{finite}
 use Rattle.arith.specs.Double.{bits}
-use Rattle.elementary.specs.Series.{east, north, west, south, at, sum, part, falling, term}
-use Rattle.elementary.specs.Within.{plus, less}
+use Rattle.circle.specs.Series.{east, north, west, south, at, sum, part, falling, term}
+use Rattle.circle.specs.Within.{plus, less}
 use Rattle.elementary.specs.Sine.{terms}
 use Rattle.elementary.specs.Log10.{Near}
 

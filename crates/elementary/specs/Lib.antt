@@ -1,5 +1,3 @@
-pub mod Series
-pub mod Within
 pub mod Sine
 pub mod Arctangent
 pub mod Log10

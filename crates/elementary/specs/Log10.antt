@@ -7,7 +7,7 @@ use lib.Dec.{T}
 use lib.Ieee.{Float, nan, inf, fin}
 use lib.Ieee.Positive.{num, den}
 use lib.Ieee.Scale.{finite}
-use Rattle.elementary.specs.Within.{plus, less}
+use Rattle.circle.specs.Within.{plus, less}
 
 -- log x ≤ r + 2 ^ -20, which is x ≤ 10 ^ (r + 2 ^ -20). Raised to the power den r * 2 ^ 20 both sides have whole exponents: x ^ (den r * 2 ^ 20) ≤ 10 ^ (plus r * 2 ^ 20 - less r * 2 ^ 20 + den r), here with den x and 10 ^ (less r * 2 ^ 20) multiplied out.
 abbrev pub AtMost : Float → Float → Type 0

@@ -7,8 +7,8 @@ use lib.Dec.{T}
 use lib.IntN.{pos, negsuc}
 use lib.Ieee.{Float, nan, fin, le, lt}
 use lib.Ieee.Positive.{num, den}
-use Rattle.elementary.specs.Series.{east, north, west, south, part, term}
-use Rattle.elementary.specs.Within.{Within}
+use Rattle.circle.specs.Series.{east, north, west, south, part, term}
+use Rattle.circle.specs.Within.{Within}
 
 -- the terms of x's series up to the n-th
 abbrev pub terms : Float → ℕ → ℕ → ℕ

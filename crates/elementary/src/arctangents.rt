@@ -51,9 +51,19 @@ fn above(c: u64, cn: u64, s: u64, sn: u64, m: u64, e: u64) -> bool
         if 8192 <= c {
             return true;
         }
-        return reaches(super::fixed::high(8192 - c, m << 10) + 4, s - 8192, e, 2095);
+        return reaches(
+            circle::fixed::high(8192 - c, m << 10) + 4,
+            s - 8192,
+            e,
+            2095,
+        );
     }
-    reaches(super::fixed::high(c + 8192, m << 10) + 4, s - 8192, e, 2095)
+    reaches(
+        circle::fixed::high(c + 8192, m << 10) + 4,
+        s - 8192,
+        e,
+        2095,
+    )
 }
 
 // Whether it is surely no more.
@@ -75,26 +85,26 @@ fn below(c: u64, cn: u64, s: u64, sn: u64, m: u64, e: u64) -> bool
         return false;
     }
     if 0 < sn {
-        return reaches(8192, super::fixed::high(c - 8192, m << 10), 2095, e);
+        return reaches(8192, circle::fixed::high(c - 8192, m << 10), 2095, e);
     }
-    reaches(s + 8192, super::fixed::high(c - 8192, m << 10), 2095, e)
+    reaches(s + 8192, circle::fixed::high(c - 8192, m << 10), 2095, e)
 }
 
 // The cosine and the sine 2^-40 further, from a cosine and a sine that are not negative.
-fn further(c: u64, s: u64) -> super::circle::Pair
+fn further(c: u64, s: u64) -> circle::Pair
     requires { ⌜ (c ≤ 9 * 2 ^ 60) × (s ≤ 9 * 2 ^ 60) ⌝ }
     ensures { λ r. ⌜ IsFurther c s (r .cn) (r .c) (r .sn) (r .s) ⌝ }
 {
     let t = s >> 40;
     if c < t {
-        super::circle::Pair {
+        circle::Pair {
             c: t - c,
             cn: 1,
             s: s + (c >> 40),
             sn: 0,
         }
     } else {
-        super::circle::Pair {
+        circle::Pair {
             c: c - t,
             cn: 0,
             s: s + (c >> 40),
@@ -108,7 +118,7 @@ fn encloses(low: u64, m: u64, e: u64) -> bool
     requires { ⌜ (low + 2 ^ 18 ≤ 2 ^ 59) × (2 ^ 52 ≤ m) × (m < 2 ^ 53) ⌝ }
     ensures { λ r. ⌜ (r ≡ true → Between low (low + 2 ^ 18) m e) ⌝ }
 {
-    let p = super::circle::circle(low, 5);
+    let p = circle::circle(low, 5);
     let c = p.c;
     let cn = p.cn;
     let s = p.s;
@@ -138,7 +148,7 @@ fn fine(g: f64) -> u64
     requires { ⌜ T (Ieee.lt (fin false 0 (pos 0)) g) ⌝ ∗ ⌜ T (Ieee.lt g (fin false 1 (pos 1))) ⌝ }
     ensures { λ r. ⌜ IsFine (num g) (den g) r ⌝ }
 {
-    let s = super::fixed::unpack(g);
+    let s = circle::fixed::unpack(g);
     let m = s.m;
     let e = s.e;
     if e < 2033 {
@@ -237,7 +247,7 @@ fn halved(low: u64, up: u64, m: u64, e: u64) -> Bracket
     ensures { λ r. ⌜ IsHalved low up m e (r .low) (r .up) ⌝ }
 {
     let mid = low + (up - low) / 2;
-    let p = super::circle::circle(mid, 5);
+    let p = circle::circle(mid, 5);
     let c = p.c;
     let cn = p.cn;
     let s = p.s;
@@ -248,7 +258,7 @@ fn halved(low: u64, up: u64, m: u64, e: u64) -> Bracket
     if below(c, cn, s, sn, m, e) {
         return Bracket { low: mid, up: up };
     }
-    let q = super::circle::circle(mid + 0x10000, 5);
+    let q = circle::circle(mid + 0x10000, 5);
     let d = q.c;
     let dn = q.cn;
     let t = q.s;
@@ -284,7 +294,7 @@ fn arctangent_above_zero(x: f64) -> f64
     requires { ⌜ T (Ieee.lt (fin false 0 (pos 0)) x) ⌝ ∗ ⌜ T (Ieee.lt x (inf false)) ⌝ }
     ensures { λ r. ⌜ IsArctangent x r ⌝ }
 {
-    let s = super::fixed::unpack(x);
+    let s = circle::fixed::unpack(x);
     let m = s.m;
     let e = s.e;
     let g = guess(x);
@@ -298,7 +308,7 @@ fn arctangent_above_zero(x: f64) -> f64
             }
         }
     }
-    super::fixed::parts(bisected(m, e) >> 6)
+    circle::fixed::parts(bisected(m, e) >> 6)
 }
 
 // The arctangent of a finite x from 0 on.

@@ -1,8 +1,6 @@
 // Sine, cosine, decimal logarithm and arctangent. Each is total; specs/ says how near to the exact
 // value it is, and where it is exact.
 mod arctangents;
-mod circle;
-mod fixed;
 mod logarithms;
 mod sines;
 mod small;

@@ -9,7 +9,7 @@ ghost use lib.Ieee as Ieee;
 ghost use lib.Ieee.{fin, inf};
 ghost use lib.Ieee.Exact.{HasValue};
 ghost use Rattle.elementary.specs.Log10.{Log10, Near};
-ghost use Rattle.elementary.specs.Inside.Fixed.{Lies};
+ghost use Rattle.circle.specs.Inside.Fixed.{Lies};
 ghost use Rattle.elementary.specs.Inside.Logarithm.{BinaryLog, TenLog};
 ghost use Rattle.elementary.specs.Functions as Functions;
 ghost use Rattle.elementary.specs.Inside.LogarithmValues.{binaryLog, tenLog, parts, guess, testedBelow, testedAbove, logAboveZero};
@@ -105,7 +105,7 @@ fn tested_below(guess: f64, n: u64) -> f64
     ensures { λ r. ⌜ Lies r 0 (n + 3) 0 (n - 1) (2 ^ 22) ⌝ }
     ensures { λ r. ⌜ r ≡ testedBelow guess n ⌝ }
 {
-    super::fixed::guarded(guess, -parts((n + 3) as u32), -parts(one_less(n) as u32))
+    circle::fixed::guarded(guess, -parts((n + 3) as u32), -parts(one_less(n) as u32))
 }
 
 // The guess, where it lies from n / 2^22 to (n + 3) / 2^22.
@@ -114,7 +114,7 @@ fn tested_above(guess: f64, n: u64) -> f64
     ensures { λ r. ⌜ Lies r n 0 (n + 3) 0 (2 ^ 22) ⌝ }
     ensures { λ r. ⌜ r ≡ testedAbove guess n ⌝ }
 {
-    super::fixed::guarded(guess, parts(n as u32), parts((n + 3) as u32))
+    circle::fixed::guarded(guess, parts(n as u32), parts((n + 3) as u32))
 }
 
 // The decimal logarithm of a number above zero that is finite. 2148 * 2^22 is the binary one of 1, in
@@ -124,7 +124,7 @@ fn log_above_zero(x: f64) -> f64
     ensures { λ r. ⌜ Near x r ⌝ }
     ensures { λ r. ⌜ r ≡ logAboveZero x ⌝ }
 {
-    let s = super::fixed::unpack(x);
+    let s = circle::fixed::unpack(x);
     let m = s.m;
     let e = s.e;
     let t = e * 0x40_0000 + binary_log(m);

@@ -18,7 +18,7 @@ fn scaled(x: f64) -> u64
     ensures { λ r. ⌜ (r ≤ 200 * 2 ^ 52) × (r * den x ≡ num x * 2 ^ 52) ⌝ }
     ensures { λ r. ⌜ r ≡ SineValues.scaled x ⌝ }
 {
-    let s = super::fixed::unpack(x);
+    let s = circle::fixed::unpack(x);
     let m = s.m;
     let e = s.e;
     m << (e - 2096)
@@ -107,10 +107,10 @@ fn far_cosine(x: f64) -> f64
     ensures { λ r. ⌜ IsCosine x r ⌝ }
     ensures { λ r. ⌜ r ≡ SineValues.farCosine x ⌝ }
 {
-    let p = super::circle::circle(scaled(x), 11);
+    let p = circle::circle(scaled(x), 11);
     let c = p.c;
     let cn = p.cn;
-    super::fixed::tested(guess(x, 1.0), cn, c >> 11)
+    circle::fixed::tested(guess(x, 1.0), cn, c >> 11)
 }
 
 // The sine of x, from 1 to 200.
@@ -119,10 +119,10 @@ fn far_sine(x: f64) -> f64
     ensures { λ r. ⌜ IsSine x r ⌝ }
     ensures { λ r. ⌜ r ≡ SineValues.farSine x ⌝ }
 {
-    let p = super::circle::circle(scaled(x), 11);
+    let p = circle::circle(scaled(x), 11);
     let s = p.s;
     let sn = p.sn;
-    super::fixed::tested(guess(x, 0.0), sn, s >> 11)
+    circle::fixed::tested(guess(x, 0.0), sn, s >> 11)
 }
 
 // The cosine of x, from 0 to 200.

@@ -9,8 +9,8 @@ ghost use lib.Ieee.{fin, binary64};
 ghost use lib.Ieee.Exact.{HasValue};
 ghost use lib.Ieee.Positive.{num, den};
 ghost use Rattle.elementary.specs.Sine.{IsCosine, IsSine};
-ghost use Rattle.elementary.specs.Inside.Fixed.{Lies};
-ghost use Rattle.elementary.specs.Inside.Horner.{Alternating};
+ghost use Rattle.circle.specs.Inside.Fixed.{Lies};
+ghost use Rattle.circle.specs.Inside.Horner.{Alternating};
 ghost use Rattle.elementary.specs.Inside.Small.{IsSplit, IsSquare};
 ghost use Rattle.elementary.specs.Inside.SmallValues as SmallValues;
 
@@ -26,7 +26,7 @@ fn split(x: f64) -> Fraction
     ensures { λ r. ⌜ IsSplit (num x) (den x) (r .m) (r .k) ⌝ }
     ensures { λ r. ⌜ r ≡ SmallValues.split x ⌝ }
 {
-    let s = super::fixed::unpack(x);
+    let s = circle::fixed::unpack(x);
     let m = s.m;
     let e = s.e;
     Fraction {
@@ -42,7 +42,7 @@ fn own_square(m: u64, k: u64) -> u64
     ensures { λ r. ⌜ r ≡ SmallValues.ownSquare m k ⌝ }
 {
     let y = m >> k;
-    super::fixed::high(y, y)
+    circle::fixed::high(y, y)
 }
 
 // The cosine of the root of q, in units of 2^-63, by its series to the 20th power.
@@ -51,16 +51,16 @@ fn even_sum(q: u64) -> u64
     ensures { λ r. ⌜ Alternating 1 q 0 20 20 r ⌝ }
     ensures { λ r. ⌜ r ≡ SmallValues.evenSum q ⌝ }
 {
-    let g18 = super::fixed::horner(0x8000_0000_0000_0000, q, 380);
-    let g16 = super::fixed::horner(g18, q, 306);
-    let g14 = super::fixed::horner(g16, q, 240);
-    let g12 = super::fixed::horner(g14, q, 182);
-    let g10 = super::fixed::horner(g12, q, 132);
-    let g8 = super::fixed::horner(g10, q, 90);
-    let g6 = super::fixed::horner(g8, q, 56);
-    let g4 = super::fixed::horner(g6, q, 30);
-    let g2 = super::fixed::horner(g4, q, 12);
-    super::fixed::horner(g2, q, 2)
+    let g18 = circle::fixed::horner(0x8000_0000_0000_0000, q, 380);
+    let g16 = circle::fixed::horner(g18, q, 306);
+    let g14 = circle::fixed::horner(g16, q, 240);
+    let g12 = circle::fixed::horner(g14, q, 182);
+    let g10 = circle::fixed::horner(g12, q, 132);
+    let g8 = circle::fixed::horner(g10, q, 90);
+    let g6 = circle::fixed::horner(g8, q, 56);
+    let g4 = circle::fixed::horner(g6, q, 30);
+    let g2 = circle::fixed::horner(g4, q, 12);
+    circle::fixed::horner(g2, q, 2)
 }
 
 // The sine of the root of q over that root, in units of 2^-63, by its series to the 21st power.
@@ -69,16 +69,16 @@ fn odd_sum(q: u64) -> u64
     ensures { λ r. ⌜ Alternating 1 q 1 20 20 r ⌝ }
     ensures { λ r. ⌜ r ≡ SmallValues.oddSum q ⌝ }
 {
-    let g19 = super::fixed::horner(0x8000_0000_0000_0000, q, 420);
-    let g17 = super::fixed::horner(g19, q, 342);
-    let g15 = super::fixed::horner(g17, q, 272);
-    let g13 = super::fixed::horner(g15, q, 210);
-    let g11 = super::fixed::horner(g13, q, 156);
-    let g9 = super::fixed::horner(g11, q, 110);
-    let g7 = super::fixed::horner(g9, q, 72);
-    let g5 = super::fixed::horner(g7, q, 42);
-    let g3 = super::fixed::horner(g5, q, 20);
-    super::fixed::horner(g3, q, 6)
+    let g19 = circle::fixed::horner(0x8000_0000_0000_0000, q, 420);
+    let g17 = circle::fixed::horner(g19, q, 342);
+    let g15 = circle::fixed::horner(g17, q, 272);
+    let g13 = circle::fixed::horner(g15, q, 210);
+    let g11 = circle::fixed::horner(g13, q, 156);
+    let g9 = circle::fixed::horner(g11, q, 110);
+    let g7 = circle::fixed::horner(g9, q, 72);
+    let g5 = circle::fixed::horner(g7, q, 42);
+    let g3 = circle::fixed::horner(g5, q, 20);
+    circle::fixed::horner(g3, q, 6)
 }
 
 // m / 2^(53 + k) as a double.
@@ -88,7 +88,7 @@ fn placed(m: u64, k: u64) -> f64
     ensures { λ r. ⌜ r ≡ SmallValues.placed m k ⌝ }
 {
     let one: u64 = 1;
-    super::fixed::parts(m) / ((one << (k + 1)) as f64)
+    circle::fixed::parts(m) / ((one << (k + 1)) as f64)
 }
 
 // n less 1024, or 0.
@@ -119,7 +119,7 @@ fn tested_share(guess: f64, n: u64, k: u64) -> f64
     ensures { λ r. ⌜ Lies r (n - 1024) 0 (n + 1024) 0 (2 ^ 52 * 2 ^ (k + 1)) ⌝ }
     ensures { λ r. ⌜ r ≡ SmallValues.testedShare guess n k ⌝ }
 {
-    super::fixed::guarded(guess, placed(lower(n), k), placed(upper(n), k))
+    circle::fixed::guarded(guess, placed(lower(n), k), placed(upper(n), k))
 }
 
 // The sine of x, from 2^-27 to 1: the guess, where the series proves it.
@@ -132,7 +132,7 @@ pub fn low_sine(x: f64, guess: f64) -> f64
     let m = p.m;
     let k = p.k;
     let g = odd_sum(own_square(m, k));
-    tested_share(guess, (super::fixed::high(m, g) + 512) >> 10, k)
+    tested_share(guess, (circle::fixed::high(m, g) + 512) >> 10, k)
 }
 
 // The cosine of x, from 2^-27 to 1: the guess, where the series proves it.
@@ -145,5 +145,5 @@ pub fn low_cosine(x: f64, guess: f64) -> f64
     let m = p.m;
     let k = p.k;
     let g = even_sum(own_square(m, k));
-    super::fixed::tested(guess, 0, (g + 1024) >> 11)
+    circle::fixed::tested(guess, 0, (g + 1024) >> 11)
 }

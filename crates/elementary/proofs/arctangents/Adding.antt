@@ -4,11 +4,11 @@ use mathlib.Core.Path.{_≡_, sym, ap, _∙_}
 use Prim.Native.Nat.{ℕ, zero, suc, _+_, _-_, _*_, _≤_, _<_}
 use native.Mathlib.Nat.{le-trans, le-of-eq, mul-add, add-mul, mul-assoc, mul-left-comm, zero-mul, mul-zero, mul-pos, zero-lt-suc, eq-of-mul-eq-mul-left, zero-add}
 use native.Mathlib.Omega.{arith}
-use Rattle.elementary.specs.Series.{Quarter, at, sum, part}
-use Rattle.elementary.specs.Inside.Circle.{mix}
-use Rattle.elementary.specs.Inside.Law.{Law}
-use Rattle.elementary.proofs.circle.Sums.{sum-cong, sum-add, sum-times, sum-first, sum-last, triangle}
-use Rattle.elementary.proofs.circle.Doubling.{at-add, mix-sum-left, mix-sum-right, mix-times, triangle-under, triangle-over}
+use Rattle.circle.specs.Series.{Quarter, at, sum, part}
+use Rattle.circle.specs.Inside.Circle.{mix}
+use Rattle.circle.specs.Inside.Law.{Law}
+use Rattle.circle.proofs.Sums.{sum-cong, sum-add, sum-times, sum-first, sum-last, triangle}
+use Rattle.circle.proofs.Doubling.{at-add, mix-sum-left, mix-sum-right, mix-times, triangle-under, triangle-over}
 
 abbrev product : (ℕ → ℕ) → (ℕ → ℕ) → Quarter → ℕ → ℕ → ℕ
 product u v t j m = at t (j + m) * (u j * v m)

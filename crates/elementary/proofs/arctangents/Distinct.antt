@@ -6,15 +6,15 @@ use native.Mathlib.Nat.{le-trans, le-of-eq, le-refl, add-comm, mul-add, add-mul,
 use native.Mathlib.Omega.{arith}
 use lib.Dec.{leb→le}
 use lib.Pow.{pow-pos}
-use Rattle.elementary.specs.Series.{term}
-use Rattle.elementary.specs.Inside.Fixed.{Apart}
-use Rattle.elementary.specs.Inside.Signed.{plus, less}
-use Rattle.elementary.specs.Inside.Circle.{State, IsCircle, error}
+use Rattle.circle.specs.Series.{term}
+use Rattle.circle.specs.Inside.Fixed.{Apart}
+use Rattle.circle.specs.Inside.Signed.{plus, less}
+use Rattle.circle.specs.Inside.Circle.{State, IsCircle, error}
 use Rattle.elementary.specs.Inside.Arctangent.{Good, NearlyAbove, NearlyBelow}
-use Rattle.elementary.proofs.circle.Signed.{apart-wider}
-use Rattle.elementary.proofs.circle.Squares.{twice-le}
+use Rattle.circle.proofs.Signed.{apart-wider}
+use Rattle.circle.proofs.Squares.{twice-le}
 use Rattle.elementary.proofs.arctangents.Sides.{state-at, error-5}
-use Rattle.elementary.proofs.circle.Tiny.{step-state}
+use Rattle.circle.proofs.Tiny.{step-state}
 use Rattle.elementary.proofs.arctangents.Moved.{cosine-moved, sine-moved}
 
 -- ---- two combinations that are small, and d is not

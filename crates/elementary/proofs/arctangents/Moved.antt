@@ -4,17 +4,17 @@ use Prim.Native.Nat.{ℕ, _+_, _-_, _*_, _^_, _≤_, _<_}
 use native.Mathlib.Nat.{le-trans, le-of-eq, le-refl, mul-add, mul-comm, mul-assoc, mul-left-comm, mul-le-mul-left, mul-pos, one-mul, pow-zero}
 use native.Mathlib.Omega.{arith}
 use lib.Pow.{pow-pos}
-use Rattle.elementary.specs.Series.{Quarter, east, north, west, south, at, part}
-use Rattle.elementary.specs.Inside.Circle.{mix}
-use Rattle.elementary.specs.Series.{falling, term}
-use Rattle.elementary.specs.Inside.Fixed.{Apart}
-use Rattle.elementary.specs.Inside.Law.{Law}
-use Rattle.elementary.specs.Inside.Circle.{State}
-use Rattle.elementary.proofs.circle.Signed.{apart-trans, apart-swap, apart-wider, apart-times, apart-cancel}
-use Rattle.elementary.proofs.circle.Level.{product, gather, finish}
-use Rattle.elementary.proofs.circle.Terms.{term-law, proportion}
-use Rattle.elementary.proofs.circle.Follows.{part-scaled, carry, term-pos}
-use Rattle.elementary.proofs.circle.Onward.{tail-small, tail-gain}
+use Rattle.circle.specs.Series.{Quarter, east, north, west, south, at, part}
+use Rattle.circle.specs.Inside.Circle.{mix}
+use Rattle.circle.specs.Series.{falling, term}
+use Rattle.circle.specs.Inside.Fixed.{Apart}
+use Rattle.circle.specs.Inside.Law.{Law}
+use Rattle.circle.specs.Inside.Circle.{State}
+use Rattle.circle.proofs.Signed.{apart-trans, apart-swap, apart-wider, apart-times, apart-cancel}
+use Rattle.circle.proofs.Level.{product, gather, finish}
+use Rattle.circle.proofs.Terms.{term-law, proportion}
+use Rattle.circle.proofs.Follows.{part-scaled, carry, term-pos}
+use Rattle.circle.proofs.Onward.{tail-small, tail-gain}
 use Rattle.elementary.proofs.arctangents.Adding.{add-low, add-high}
 
 -- ---- the same state over a longer row of terms

@@ -5,8 +5,8 @@ use Prim.Native.Nat.{ℕ, zero, suc, _+_, _-_, _*_, _%_, _^_, _≤_, _<_}
 use native.Mathlib.Nat.{le-trans, le-of-eq, mod-eq-of-lt, mul-le-mul, mul-le-mul-right, le-of-mul-le-mul-right, zero-mul, add-mul}
 use native.Mathlib.Omega.{arith}
 use lib.Pow.{pow-pos}
-use Rattle.elementary.specs.Inside.Fixed.{IsHigh}
-use Rattle.elementary.specs.Inside.Signed.{plus, less}
+use Rattle.circle.specs.Inside.Fixed.{IsHigh}
+use Rattle.circle.specs.Inside.Signed.{plus, less}
 use Rattle.elementary.specs.Inside.Arctangent.{Good}
 
 shifted : (m : ℕ) → m < 2 ^ 53 → m * 1024 % 2 ^ 64 ≡ m * 2 ^ 10

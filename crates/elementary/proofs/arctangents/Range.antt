@@ -11,16 +11,16 @@ use lib.Pow.{pow-add, pow-pos, pow-mono, shl-lt}
 use lib.Ieee.{Float, nan, inf, fin, up, down, lt, le}
 use lib.Ieee.Fits.{and-l}
 use lib.Ieee.Positive.{num, den, positive}
-use Rattle.elementary.proofs.fixed.Order.{above-of, below-finite}
+use Rattle.circle.proofs.fixed.Order.{above-of, below-finite}
 use Rattle.elementary.specs.Inside.Arctangent.{IsFine}
-use Rattle.elementary.specs.Within as C
+use Rattle.circle.specs.Within as C
 use borrow.Author.Tests.{ltb-false}
-use Rattle.elementary.specs.Series.{east, west, part, term}
+use Rattle.circle.specs.Series.{east, west, part, term}
 use Rattle.elementary.specs.Arctangent.{NotBelow}
-use Rattle.elementary.proofs.circle.Terms.{term-law}
-use Rattle.elementary.proofs.circle.Alternate.{east-most}
-use Rattle.elementary.proofs.circle.Tiny.{norths, souths, far}
-use Rattle.elementary.proofs.fixed.Zero.{Whole, apart-from, side}
+use Rattle.circle.proofs.Terms.{term-law}
+use Rattle.circle.proofs.Alternate.{east-most}
+use Rattle.circle.proofs.Tiny.{norths, souths, far}
+use Rattle.circle.proofs.fixed.Zero.{Whole, apart-from, side}
 
 -- ---- zero
 not-under : (a b : ℕ) → a ≡ 0 → 0 < b → b ≤ a → ⊥

@@ -5,12 +5,12 @@ use native.Mathlib.Nat.{le-trans, le-refl}
 use native.Mathlib.Omega.{arith}
 use lib.Dec.{leb→le}
 use lib.Pow.{pow-pos}
-use Rattle.elementary.specs.Series.{term}
-use Rattle.elementary.specs.Inside.Fixed.{Apart}
-use Rattle.elementary.specs.Inside.Signed.{plus, less}
-use Rattle.elementary.specs.Inside.Circle.{State, IsCircle, error}
+use Rattle.circle.specs.Series.{term}
+use Rattle.circle.specs.Inside.Fixed.{Apart}
+use Rattle.circle.specs.Inside.Signed.{plus, less}
+use Rattle.circle.specs.Inside.Circle.{State, IsCircle, error}
 use Rattle.elementary.specs.Inside.Arctangent.{IsFurther}
-use Rattle.elementary.proofs.circle.Tiny.{step-state}
+use Rattle.circle.proofs.Tiny.{step-state}
 use Rattle.elementary.proofs.arctangents.Sides.{Stated, state-at}
 use Rattle.elementary.proofs.arctangents.Moved.{rotated}
 

@@ -5,17 +5,17 @@ use Prim.Native.Nat.{ℕ, suc, _+_, _-_, _*_, _/_, _^_, _≤_, _<_}
 use native.Mathlib.Nat.{le-trans, le-of-eq, le-of-lt, le-refl, add-le-add, add-mul, mul-comm, mul-assoc, mul-left-comm, mul-right-comm, mul-le-mul-left, mul-le-mul-right, le-of-mul-le-mul-right, mul-pos, one-mul, suc-mul, div-mul-le-self, lt-div-mul-add}
 use native.Mathlib.Omega.{arith}
 use lib.Dec.{leb→le}
-use Rattle.elementary.proofs.circle.Signed.{apart-wider}
+use Rattle.circle.proofs.Signed.{apart-wider}
 use lib.Pow.{pow-pos, pow-add, pow-mono}
-use Rattle.elementary.specs.Series.{east, north, west, south, part}
-use Rattle.elementary.specs.Series.{term}
+use Rattle.circle.specs.Series.{east, north, west, south, part}
+use Rattle.circle.specs.Series.{term}
 use Rattle.elementary.specs.Arctangent.{NotAbove, NotBelow, IsArctangent}
 use lib.Ieee.{Float, nan, inf, fin, up, down}
 use lib.Ieee.Exact.{HasValue}
 use lib.Ieee.Positive.{num, den}
-use Rattle.elementary.specs.Inside.Fixed.{Apart, IsHigh}
-use Rattle.elementary.specs.Inside.Signed.{plus, less}
-use Rattle.elementary.specs.Inside.Circle.{State, IsCircle, error}
+use Rattle.circle.specs.Inside.Fixed.{Apart, IsHigh}
+use Rattle.circle.specs.Inside.Signed.{plus, less}
+use Rattle.circle.specs.Inside.Circle.{State, IsCircle, error}
 use Rattle.elementary.specs.Inside.Arctangent.{Above, Below, Found}
 
 -- ---- comparisons across powers of 2

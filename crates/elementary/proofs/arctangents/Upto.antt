@@ -7,18 +7,18 @@ use native.Mathlib.Decide.{decLe}
 use native.Mathlib.Omega.{arith}
 use lib.Dec.{leb→le}
 use lib.Pow.{pow-pos}
-use Rattle.elementary.specs.Series.{east, north, west, south, at, sum, part}
-use Rattle.elementary.specs.Series.{term}
+use Rattle.circle.specs.Series.{east, north, west, south, at, sum, part}
+use Rattle.circle.specs.Series.{term}
 use Rattle.elementary.specs.Arctangent.{NotBelow}
-use Rattle.elementary.specs.Inside.Fixed.{Apart}
-use Rattle.elementary.specs.Inside.Signed.{plus, less}
-use Rattle.elementary.specs.Inside.Circle.{State, IsCircle, error}
+use Rattle.circle.specs.Inside.Fixed.{Apart}
+use Rattle.circle.specs.Inside.Signed.{plus, less}
+use Rattle.circle.specs.Inside.Circle.{State, IsCircle, error}
 use Rattle.elementary.specs.Inside.Arctangent.{Good}
-use Rattle.elementary.proofs.circle.Sums.{sum-upto}
-use Rattle.elementary.proofs.circle.Terms.{term-law, ratio, halves, gain}
-use Rattle.elementary.proofs.circle.Follows.{term-pos}
-use Rattle.elementary.proofs.circle.Alternate.{two-law, east-further, west-further, west-most}
-use Rattle.elementary.proofs.circle.Alternate.{from-zero}
+use Rattle.circle.proofs.Sums.{sum-upto}
+use Rattle.circle.proofs.Terms.{term-law, ratio, halves, gain}
+use Rattle.circle.proofs.Follows.{term-pos}
+use Rattle.circle.proofs.Alternate.{two-law, east-further, west-further, west-most}
+use Rattle.circle.proofs.Alternate.{from-zero}
 use Rattle.elementary.proofs.arctangents.Sides.{state-at, error-5}
 
 -- ---- the cosine up to 1

@@ -8,9 +8,9 @@ use lib.Dec.{T}
 use lib.Ieee.{Float}
 use lib.Ieee.Scale.{finite}
 use lib.Ieee.Positive.{num, den}
-use Rattle.elementary.specs.Within.{plus, less}
+use Rattle.circle.specs.Within.{plus, less}
 use Rattle.elementary.specs.Log10.{Near}
-use Rattle.elementary.specs.Inside.Fixed.{Lies}
+use Rattle.circle.specs.Inside.Fixed.{Lies}
 use Rattle.elementary.specs.Inside.Logarithm.{fine, BinaryLog, TenLog}
 use Rattle.elementary.proofs.logarithms.Powers.{pow-of-pow, pow-of-mul, root-le, power-pos}
 

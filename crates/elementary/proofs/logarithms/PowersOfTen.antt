@@ -11,7 +11,7 @@ use lib.Ieee.{Float}
 use lib.Ieee.Fits.{and-l, and-r}
 use lib.Ieee.Positive.{num, den}
 use lib.Ieee.Scale.{finite}
-use Rattle.elementary.specs.Within.{plus, less}
+use Rattle.circle.specs.Within.{plus, less}
 use Rattle.elementary.specs.Log10.{Near}
 use Rattle.elementary.specs.Examples.{isLogOfPower, AtPowersOfTen}
 use Rattle.elementary.proofs.logarithms.Powers.{power-pos, pow-of-pow}

@@ -5,10 +5,10 @@ use native.Mathlib.Nat.{le-trans, le-of-eq, le-refl, add-le-add, add-comm, mul-a
 use native.Mathlib.Omega.{arith}
 use lib.Ieee.{Float}
 use lib.Ieee.Positive.{den}
-use Rattle.elementary.specs.Within.{Within}
-use Rattle.elementary.specs.Within as C
-use Rattle.elementary.specs.Inside.Fixed.{Apart, Lies}
-use Rattle.elementary.specs.Inside.Signed.{plus, less}
+use Rattle.circle.specs.Within.{Within}
+use Rattle.circle.specs.Within as C
+use Rattle.circle.specs.Inside.Fixed.{Apart, Lies}
+use Rattle.circle.specs.Inside.Signed.{plus, less}
 
 -- ---- a number within 2 ^ -42 of the code's cut to 52 digits is within 2 ^ -40 of the series
 -- (x - y) / d is the number, (p - l) / 2 ^ 52 the code's cut, and (c - m) / 2 ^ 63 the code's

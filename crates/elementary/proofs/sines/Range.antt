@@ -12,7 +12,7 @@ use lib.Pow.{pow-add, pow-pos, pow-mono, shl-lt}
 use lib.Ieee.{Float, nan, inf, fin, up, down, lt, le, eq, binary64, ofBits}
 use lib.Ieee.Fits.{up-pos, down-pos, and-l}
 use lib.Ieee.Positive.{num, den, positive, between, le→cross}
-use Rattle.elementary.proofs.fixed.Zero.{Whole, apart-from, side}
+use Rattle.circle.proofs.fixed.Zero.{Whole, apart-from, side}
 use Rattle.elementary.specs.Inside.Small.{IsSplit}
 use borrow.Author.Tests.{ltb-false}
 

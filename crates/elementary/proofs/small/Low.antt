@@ -8,20 +8,20 @@ use lib.Pow.{pow-pos, pow-add}
 use lib.IntN.{pos}
 use lib.Ieee.{Float, nan, inf, fin, up, down}
 use lib.Ieee.Positive.{num, den, den-pos}
-use Rattle.elementary.specs.Series.{Quarter, east, north, west, south, start, back, part}
-use Rattle.elementary.specs.Series.{term}
-use Rattle.elementary.specs.Within.{Within}
-use Rattle.elementary.specs.Within as C
-use Rattle.elementary.specs.Inside.Fixed.{Apart, IsHigh, Lies}
-use Rattle.elementary.specs.Inside.Signed.{plus, less}
-use Rattle.elementary.specs.Inside.Horner.{IsRoot, Alternating}
+use Rattle.circle.specs.Series.{Quarter, east, north, west, south, start, back, part}
+use Rattle.circle.specs.Series.{term}
+use Rattle.circle.specs.Within.{Within}
+use Rattle.circle.specs.Within as C
+use Rattle.circle.specs.Inside.Fixed.{Apart, IsHigh, Lies}
+use Rattle.circle.specs.Inside.Signed.{plus, less}
+use Rattle.circle.specs.Inside.Horner.{IsRoot, Alternating}
 use Rattle.elementary.specs.Inside.Small.{IsSplit}
-use Rattle.elementary.proofs.circle.Terms.{term-law}
-use Rattle.elementary.proofs.circle.Alternate.{east-further, west-further, east-most, west-most, from-zero, from-one}
-use Rattle.elementary.proofs.circle.Tiny.{small, third, norths, souths, far}
-use Rattle.elementary.proofs.circle.Signed.{apart-times}
+use Rattle.circle.proofs.Terms.{term-law}
+use Rattle.circle.proofs.Alternate.{east-further, west-further, east-most, west-most, from-zero, from-one}
+use Rattle.circle.proofs.Tiny.{small, third, norths, souths, far}
+use Rattle.circle.proofs.Signed.{apart-times}
 use Rattle.elementary.proofs.sines.Doubles.{within-of}
-use Rattle.elementary.proofs.fixed.Zero.{Whole}
+use Rattle.circle.proofs.fixed.Zero.{Whole}
 
 -- ---- a share of i / j that is not above 1 is within 1
 pub narrower : (r : Float) (P Q U i j : ℕ) → 0 < j → i ≤ j → Within r P Q U i j → Within r P Q U 1 1

@@ -3,9 +3,9 @@ use mathlib.Core.Path.{_≡_, sym, ap, _∙_}
 use Prim.Native.Nat.{ℕ, suc, _+_, _*_, _/_, _^_, _≤_, _<_}
 use native.Mathlib.Nat.{le-trans, le-of-eq, le-of-lt, mul-assoc, mul-le-mul, mul-le-mul-right, le-of-mul-le-mul-right, suc-mul, mul-right-comm, div-mul-le-self, lt-div-mul-add, div-le-self, lt-of-le-of-lt}
 use lib.Pow.{pow-pos}
-use Rattle.elementary.specs.Inside.Fixed.{IsHigh}
+use Rattle.circle.specs.Inside.Fixed.{IsHigh}
 use Rattle.elementary.specs.Inside.Small.{IsSquare}
-use Rattle.elementary.proofs.circle.Alternate.{rooted}
+use Rattle.circle.proofs.Alternate.{rooted}
 
 pub is-square : (m k q : ℕ) → m < 2 ^ 63 → IsHigh (m / 2 ^ k) (m / 2 ^ k) q → IsSquare m k q
 is-square m k q M i = go (m / 2 ^ k) (div-mul-le-self m (2 ^ k)) (lt-div-mul-add (pow-pos k)) (lt-of-le-of-lt (div-le-self m (2 ^ k)) M) i

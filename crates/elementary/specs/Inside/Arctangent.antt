@@ -3,7 +3,7 @@ use Prim.Native.Nat.{ℕ, suc, _+_, _-_, _*_, _/_, _^_, _≤_, _<_}
 use mathlib.Core.Path.{_≡_}
 use mathlib.Core.Logic.{_⊎_}
 use Rattle.elementary.specs.Arctangent.{NotAbove, NotBelow}
-use Rattle.elementary.specs.Inside.Signed.{plus, less}
+use Rattle.circle.specs.Inside.Signed.{plus, less}
 
 -- ---- the arctangent
 -- y is the whole part of a / b * 2 ^ 58, below 2

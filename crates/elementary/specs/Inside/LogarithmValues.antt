@@ -4,7 +4,7 @@ use mathlib.Core.Bool.{true, false, cond}
 use lib.Dec.{ltb}
 use lib.Ieee.{Float, nan, inf, neg, lt, eq}
 use Rattle.arith.specs.Double.{_⊕_, _⊖_, _⊗_, _⊘_, dbl, bits, #0, #0·5, #1, #2, #3, #5}
-use Rattle.elementary.specs.Inside.FixedValues.{unpacked, guarded}
+use Rattle.circle.specs.Inside.FixedValues.{unpacked, guarded}
 
 -- what a turn of the loop of `binary_log` changes: y / 2 ^ 31 from 1 to 2, whose digits are still to be taken, and the digits k so far
 pub record Turned : Type 0 where

@@ -6,8 +6,8 @@ use lib.Ieee.{Float, nan, neg, lt}
 use Rattle.arith.specs.Double.{_⊕_, _⊖_, _⊗_, _⊘_, dbl, bits, bitsOf, #0, #0·5, #1}
 use Rattle.elementary.specs.declared.sines.Remainder.{Remainder}
 use Rattle.elementary.specs.Sine.{inRange, isTiny}
-use Rattle.elementary.specs.Inside.FixedValues.{unpacked, tested}
-use Rattle.elementary.specs.Inside.CircleValues.{circle}
+use Rattle.circle.specs.Inside.FixedValues.{unpacked, tested}
+use Rattle.circle.specs.Inside.CircleValues.{circle}
 use Rattle.elementary.specs.Inside.SmallValues.{lowSine, lowCosine}
 
 -- x * 2 ^ 52

@@ -5,7 +5,7 @@ use lib.Dec.{ltb}
 use lib.Ieee.{Float}
 use Rattle.arith.specs.Double.{_⊘_, dbl}
 use Rattle.elementary.specs.declared.small.Fraction.{Fraction}
-use Rattle.elementary.specs.Inside.FixedValues.{unpacked, high, horner, parts, guarded, tested}
+use Rattle.circle.specs.Inside.FixedValues.{unpacked, high, horner, parts, guarded, tested}
 
 -- x as m / 2 ^ (63 + k), with an m of 63 binary digits
 unfoldable pub split : Float → Fraction

@@ -5,7 +5,7 @@ use Prim.Native.Nat.{ℕ, _+_, _-_, _*_, _^_, _≤_, _<_, zero-le}
 use native.Mathlib.Nat.{le-trans, le-of-eq, le-of-lt, zero-mul}
 use native.Mathlib.Omega.{arith}
 use borrow.Author.Needs.{needs}
-use Rattle.elementary.specs.Inside.Signed.{plus, less}
+use Rattle.circle.specs.Inside.Signed.{plus, less}
 use Rattle.elementary.proofs.arctangents.Sides.{sure-above, unsure-above}
 use Rattle.elementary.proofs.arctangents.Nearly.{wide, top-fits, one-of, none-of, high-of, below-negative, below-small, below-west, below-east}
 use Rattle.elementary.proofs.arctangents.above.Statement.{statement}

@@ -4,7 +4,7 @@ use mathlib.Core.Bool.{Bool, true, false, not, true≢false}
 use lib.Dec.{T}
 use lib.IntN.{pos}
 use lib.Ieee.{Float, inf, fin, le, lt, ofBits, div}
-use Rattle.elementary.proofs.fixed.Zero.{clash}
+use Rattle.circle.proofs.fixed.Zero.{clash}
 use Rattle.elementary.proofs.arctangents.arctangent.Statement.{statement}
 use Rattle.elementary.proofs.arctangents.arctangent.Tie as tie
 

@@ -8,7 +8,7 @@ use lib.Ieee.{ofBits}
 use lib.Ieee.Positive.{num, den, positive, positive-finite}
 use borrow.Author.Needs.{needs}
 use Rattle.elementary.proofs.arctangents.Range.{two-positive, less-none}
-use Rattle.elementary.proofs.fixed.Order.{above-of}
+use Rattle.circle.proofs.fixed.Order.{above-of}
 use Rattle.elementary.proofs.arctangents.Sides.{found-is}
 use Rattle.elementary.proofs.arctangents.arctangent_above_zero.Statement.{statement}
 use Rattle.elementary.proofs.arctangents.arctangent_above_zero.Tie as tie

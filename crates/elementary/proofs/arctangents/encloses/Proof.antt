@@ -6,7 +6,7 @@ use native.Mathlib.Nat.{le-trans}
 use native.Mathlib.Omega.{arith}
 use lib.Dec.{leb→le}
 use borrow.Author.Tests.{not-false}
-use Rattle.elementary.specs.Inside.Circle.{IsCircle}
+use Rattle.circle.specs.Inside.Circle.{IsCircle}
 use Rattle.elementary.proofs.arctangents.Sides.{Stated, stated, above-is, below-is}
 use Rattle.elementary.proofs.arctangents.Rotated.{further-is}
 use Rattle.elementary.proofs.arctangents.encloses.Statement.{statement}

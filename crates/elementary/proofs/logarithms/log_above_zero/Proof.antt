@@ -5,7 +5,7 @@ use native.Mathlib.Omega.{arith}
 use borrow.Author.Needs.{needs}
 use borrow.Author.Tests.{lt-ltb, le-ltb}
 use Rattle.elementary.specs.Inside.LogarithmValues.{logAboveZero}
-use Rattle.elementary.proofs.fixed.Order.{above-of}
+use Rattle.circle.proofs.fixed.Order.{above-of}
 use Rattle.elementary.proofs.logarithms.Bridge.{near-under, near-over}
 use Rattle.elementary.proofs.logarithms.log_above_zero.Statement.{statement}
 use Rattle.elementary.proofs.logarithms.log_above_zero.Tie as tie

@@ -7,7 +7,7 @@ use lib.IntN.{pos}
 use lib.Ieee.{binary64, fin, ofBits, ofInt}
 use borrow.Author.Needs.{needs}
 use Rattle.elementary.specs.Inside.LogarithmValues.{parts}
-use Rattle.elementary.proofs.fixed.Exactly.{whole, over-power}
+use Rattle.circle.proofs.fixed.Exactly.{whole, over-power}
 use Rattle.elementary.proofs.logarithms.parts.Statement.{statement}
 use Rattle.elementary.proofs.logarithms.parts.Tie as tie
 

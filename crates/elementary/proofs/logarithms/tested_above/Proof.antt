@@ -3,7 +3,7 @@ use Prim.Native.Nat.{ℕ, _+_, _^_, _≤_}
 use native.Mathlib.Omega.{arith}
 use borrow.Author.Needs.{needs}
 use Rattle.elementary.specs.Inside.LogarithmValues.{testedAbove}
-use Rattle.elementary.proofs.fixed.Order.{difference-more, lies-of}
+use Rattle.circle.proofs.fixed.Order.{difference-more, lies-of}
 use Rattle.elementary.proofs.logarithms.tested_above.Statement.{statement}
 use Rattle.elementary.proofs.logarithms.tested_above.Tie as tie
 

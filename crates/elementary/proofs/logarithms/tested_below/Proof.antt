@@ -4,10 +4,10 @@ use Prim.Native.Nat.{ℕ, _+_, _-_, _^_, _≤_}
 use native.Mathlib.Omega.{arith}
 use borrow.Author.Needs.{needs}
 use lib.Ieee.{neg}
-use Rattle.elementary.specs.Inside.Fixed.{IsDifference}
+use Rattle.circle.specs.Inside.Fixed.{IsDifference}
 use Rattle.elementary.specs.Inside.LogarithmValues.{testedBelow}
-use Rattle.elementary.proofs.fixed.Exactly.{negated}
-use Rattle.elementary.proofs.fixed.Order.{difference-less, lies-of}
+use Rattle.circle.proofs.fixed.Exactly.{negated}
+use Rattle.circle.proofs.fixed.Order.{difference-less, lies-of}
 use Rattle.elementary.proofs.logarithms.tested_below.Statement.{statement}
 use Rattle.elementary.proofs.logarithms.tested_below.Tie as tie
 

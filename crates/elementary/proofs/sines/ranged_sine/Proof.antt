@@ -9,7 +9,7 @@ use lib.Ieee.Positive.{num, den, den-pos}
 use borrow.Author.Needs.{needs}
 use Rattle.elementary.specs.Inside.SineValues as SineValues
 use Rattle.elementary.proofs.small.Low.{own-is, narrower}
-use Rattle.elementary.proofs.fixed.Zero.{clash}
+use Rattle.circle.proofs.fixed.Zero.{clash}
 use Rattle.elementary.proofs.sines.Range.{tiny-of, whole-of, from-of}
 use Rattle.elementary.proofs.sines.ranged_sine.Statement.{statement}
 use Rattle.elementary.proofs.sines.ranged_sine.Tie as tie

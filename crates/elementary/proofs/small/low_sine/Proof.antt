@@ -5,7 +5,7 @@ use native.Mathlib.Omega.{arith}
 use lib.Pow.{pow-pos}
 use lib.Ieee.Positive.{num, den, den-pos}
 use borrow.Author.Needs.{needs}
-use Rattle.elementary.specs.Inside.Fixed.{IsHigh}
+use Rattle.circle.specs.Inside.Fixed.{IsHigh}
 use Rattle.elementary.specs.Inside.SmallValues as SmallValues
 use Rattle.elementary.proofs.small.Low.{sine-low, narrower}
 use Rattle.elementary.proofs.small.low_sine.Statement.{statement}

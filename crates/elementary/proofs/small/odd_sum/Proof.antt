@@ -3,9 +3,9 @@ use mathlib.Core.Path.{refl}
 use Prim.Native.Nat.{_*_, _^_}
 use native.Mathlib.Nat.{zero-lt-suc, le-refl}
 use lib.Dec.{leb→le}
-use Rattle.elementary.specs.Inside.Horner.{Alternating}
+use Rattle.circle.specs.Inside.Horner.{Alternating}
 use Rattle.elementary.specs.Inside.SmallValues as SmallValues
-use Rattle.elementary.proofs.circle.Alternate.{last, step}
+use Rattle.circle.proofs.Alternate.{last, step}
 use Rattle.elementary.proofs.small.odd_sum.Statement.{statement}
 use Rattle.elementary.proofs.small.odd_sum.Tie as tie
 

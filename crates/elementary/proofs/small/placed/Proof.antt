@@ -11,7 +11,7 @@ use lib.Ieee.{binary64, ofInt, inFloat}
 use lib.Ieee.Exact.{HasValue}
 use borrow.Author.Needs.{needs}
 use Rattle.elementary.specs.Inside.SmallValues as SmallValues
-use Rattle.elementary.proofs.fixed.Exactly.{whole, over-power}
+use Rattle.circle.proofs.fixed.Exactly.{whole, over-power}
 use Rattle.elementary.proofs.small.placed.Statement.{statement}
 use Rattle.elementary.proofs.small.placed.Tie as tie
 

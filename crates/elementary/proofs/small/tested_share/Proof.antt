@@ -6,10 +6,10 @@ use native.Mathlib.Omega.{arith}
 use borrow.Author.Needs.{needs}
 use lib.Ieee.{Float}
 use lib.Ieee.Positive.{den}
-use Rattle.elementary.specs.Within.{less}
-use Rattle.elementary.specs.Inside.Fixed.{IsDifference, Lies}
+use Rattle.circle.specs.Within.{less}
+use Rattle.circle.specs.Inside.Fixed.{IsDifference, Lies}
 use Rattle.elementary.specs.Inside.SmallValues as SmallValues
-use Rattle.elementary.proofs.fixed.Order.{difference-more, lies-of}
+use Rattle.circle.proofs.fixed.Order.{difference-more, lies-of}
 use Rattle.elementary.proofs.small.tested_share.Statement.{statement}
 use Rattle.elementary.proofs.small.tested_share.Tie as tie
 
