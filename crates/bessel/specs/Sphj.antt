@@ -7,7 +7,7 @@ use lib.ListN.{set, replicate}
 use lib.Ieee.{Float, lt}
 use Rattle.arith.specs.Double.{_⊕_, _⊖_, _⊗_, _⊘_, dbl, at, #0, #1, #2, #3, #1e-100}
 use Rattle.arith.specs.Choice.{abs}
-use Rattle.elementary.specs.Functions.{sine, cosine}
+use Rattle.sines.specs.Functions.{sine, cosine}
 use Rattle.bessel.specs.declared.sphj.Orders.{Orders}
 use Rattle.bessel.specs.declared.sphj.Lowest.{Lowest}
 use Rattle.bessel.specs.Msta1.{msta1}

@@ -7,8 +7,8 @@ use Rattle.arith.specs.Root.{sqrt}
 use Rattle.arith.specs.Inside.Scaled as Scaled
 use Rattle.circle.specs.Inside.FixedValues as Fixed
 use Rattle.circle.specs.Inside.CircleValues as Circle
-use Rattle.elementary.specs.Inside.SmallValues as Small
-use Rattle.elementary.specs.Inside.SineValues as Sines
+use Rattle.sines.specs.Inside.SmallValues as Small
+use Rattle.sines.specs.Inside.SineValues as Sines
 use Rattle.elementary.specs.Inside.LogarithmValues as Logarithms
 use Rattle.bessel.specs.Secant as Secant
 use Rattle.bessel.specs.Msta1.{firstOrder, msta1}

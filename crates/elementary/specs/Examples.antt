@@ -10,7 +10,7 @@ use lib.Ieee.Scale.{finite}
 use Rattle.arith.specs.Double.{bits}
 use Rattle.circle.specs.Series.{east, north, west, south, at, sum, part, falling, term}
 use Rattle.circle.specs.Within.{plus, less}
-use Rattle.elementary.specs.Sine.{terms}
+use Rattle.sines.specs.Sine.{terms}
 use Rattle.elementary.specs.Log10.{Near}
 
 -- `Within`, as a test

@@ -1,4 +1,3 @@
-pub mod Sine
 pub mod Arctangent
 pub mod Log10
 pub mod Inside

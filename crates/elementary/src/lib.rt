@@ -2,8 +2,6 @@
 // value it is, and where it is exact.
 mod arctangents;
 mod logarithms;
-mod sines;
-mod small;
 
 pub use arctangents::arctangent;
 pub use logarithms::log10;

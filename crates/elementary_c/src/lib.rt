@@ -1,15 +1,16 @@
 // The elementary functions as C and Rust callers link them: for the differential tests, whose oracle
 // calls these in place of its own, and for the benchmark.
 ghost use mathlib.Core.Path.{_≡_};
-ghost use Rattle.elementary.specs.Functions as Functions;
-ghost use Rattle.elementary.specs.Sine.{Sine, Cosine};
+ghost use Rattle.sines.specs.Functions as Sines;
+ghost use Rattle.sines.specs.Sine.{Sine, Cosine};
+ghost use Rattle.elementary.specs.Functions as Logarithms;
 ghost use Rattle.elementary.specs.Log10.{Log10};
 ghost use Rattle.elementary.specs.Arctangent.{Arctangent};
 
 #[no_mangle]
 pub extern "C" fn elementary_sine(x: f64) -> f64
     ensures { λ r. ⌜ Sine x r ⌝ }
-    ensures { λ r. ⌜ r ≡ Functions.sine x ⌝ }
+    ensures { λ r. ⌜ r ≡ Sines.sine x ⌝ }
 {
     elementary::sine(x)
 }
@@ -17,7 +18,7 @@ pub extern "C" fn elementary_sine(x: f64) -> f64
 #[no_mangle]
 pub extern "C" fn elementary_cosine(x: f64) -> f64
     ensures { λ r. ⌜ Cosine x r ⌝ }
-    ensures { λ r. ⌜ r ≡ Functions.cosine x ⌝ }
+    ensures { λ r. ⌜ r ≡ Sines.cosine x ⌝ }
 {
     elementary::cosine(x)
 }
@@ -25,7 +26,7 @@ pub extern "C" fn elementary_cosine(x: f64) -> f64
 #[no_mangle]
 pub extern "C" fn elementary_log10(x: f64) -> f64
     ensures { λ r. ⌜ Log10 x r ⌝ }
-    ensures { λ r. ⌜ r ≡ Functions.log10 x ⌝ }
+    ensures { λ r. ⌜ r ≡ Logarithms.log10 x ⌝ }
 {
     elementary::log10(x)
 }

@@ -1,0 +1,3 @@
+pub mod Sine
+pub mod Inside
+pub mod Functions
