@@ -5,7 +5,7 @@ use lib.Dec.{eqb, ltb, leb}
 use lib.Ieee.{Float}
 use Rattle.arith.specs.Double.{_⊖_, _⊗_, _⊘_, dbl, bits, #0·5, #1}
 use Rattle.arith.specs.Truncation.{wholePart}
-use Rattle.elementary.specs.Functions.{log10}
+use Rattle.logarithms.specs.Functions.{log10}
 
 -- the source's numbers 6.28 and 1.36
 abbrev pub #6·28 : Float

@@ -9,7 +9,7 @@ use Rattle.circle.specs.Inside.FixedValues as Fixed
 use Rattle.circle.specs.Inside.CircleValues as Circle
 use Rattle.sines.specs.Inside.SmallValues as Small
 use Rattle.sines.specs.Inside.SineValues as Sines
-use Rattle.elementary.specs.Inside.LogarithmValues as Logarithms
+use Rattle.logarithms.specs.Inside.LogarithmValues as Logarithms
 use Rattle.bessel.specs.Secant as Secant
 use Rattle.bessel.specs.Msta1.{firstOrder, msta1}
 use Rattle.bessel.specs.Msta2.{searchFor, tenMore, msta2}

@@ -1,0 +1,2 @@
+-- What `Examples` says of powers of ten.
+pub mod PowersOfTen

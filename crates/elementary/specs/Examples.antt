@@ -11,7 +11,7 @@ use Rattle.arith.specs.Double.{bits}
 use Rattle.circle.specs.Series.{east, north, west, south, at, sum, part, falling, term}
 use Rattle.circle.specs.Within.{plus, less}
 use Rattle.sines.specs.Sine.{terms}
-use Rattle.elementary.specs.Log10.{Near}
+use Rattle.logarithms.specs.Log10.{Near}
 
 -- `Within`, as a test
 abbrev isWithin : Float → ℕ → ℕ → ℕ → ℕ → ℕ → Bool

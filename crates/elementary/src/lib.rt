@@ -1,7 +1,6 @@
 // Sine, cosine, decimal logarithm and arctangent. Each is total; specs/ says how near to the exact
 // value it is, and where it is exact.
 mod arctangents;
-mod logarithms;
 
 pub use arctangents::arctangent;
 pub use logarithms::log10;

@@ -3,8 +3,8 @@
 ghost use mathlib.Core.Path.{_≡_};
 ghost use Rattle.sines.specs.Functions as Sines;
 ghost use Rattle.sines.specs.Sine.{Sine, Cosine};
-ghost use Rattle.elementary.specs.Functions as Logarithms;
-ghost use Rattle.elementary.specs.Log10.{Log10};
+ghost use Rattle.logarithms.specs.Functions as Logarithms;
+ghost use Rattle.logarithms.specs.Log10.{Log10};
 ghost use Rattle.elementary.specs.Arctangent.{Arctangent};
 
 #[no_mangle]

@@ -6,10 +6,10 @@ use lib.Dec.{leb→le}
 use lib.IntN.{pos}
 use lib.Ieee.{binary64, fin, ofBits, ofInt}
 use borrow.Author.Needs.{needs}
-use Rattle.elementary.specs.Inside.LogarithmValues.{parts}
+use Rattle.logarithms.specs.Inside.LogarithmValues.{parts}
 use Rattle.circle.proofs.fixed.Exactly.{whole, over-power}
-use Rattle.elementary.proofs.logarithms.parts.Statement.{statement}
-use Rattle.elementary.proofs.logarithms.parts.Tie as tie
+use Rattle.logarithms.proofs.parts.Statement.{statement}
+use Rattle.logarithms.proofs.parts.Tie as tie
 
 int-to-float-result : tie.Need-int-to-float-result
 int-to-float-result c = search needs

@@ -2,10 +2,10 @@
 use Prim.Native.Nat.{ℕ, _+_, _^_, _≤_}
 use native.Mathlib.Omega.{arith}
 use borrow.Author.Needs.{needs}
-use Rattle.elementary.specs.Inside.LogarithmValues.{testedAbove}
+use Rattle.logarithms.specs.Inside.LogarithmValues.{testedAbove}
 use Rattle.circle.proofs.fixed.Order.{difference-more, lies-of}
-use Rattle.elementary.proofs.logarithms.tested_above.Statement.{statement}
-use Rattle.elementary.proofs.logarithms.tested_above.Tie as tie
+use Rattle.logarithms.proofs.tested_above.Statement.{statement}
+use Rattle.logarithms.proofs.tested_above.Tie as tie
 
 cast-parts : tie.Need-cast-parts
 cast-parts c = omega (arith, c .pre)

@@ -5,11 +5,11 @@ use native.Mathlib.Omega.{arith}
 use borrow.Author.Needs.{needs}
 use lib.Ieee.{neg}
 use Rattle.circle.specs.Inside.Fixed.{IsDifference}
-use Rattle.elementary.specs.Inside.LogarithmValues.{testedBelow}
+use Rattle.logarithms.specs.Inside.LogarithmValues.{testedBelow}
 use Rattle.circle.proofs.fixed.Exactly.{negated}
 use Rattle.circle.proofs.fixed.Order.{difference-less, lies-of}
-use Rattle.elementary.proofs.logarithms.tested_below.Statement.{statement}
-use Rattle.elementary.proofs.logarithms.tested_below.Tie as tie
+use Rattle.logarithms.proofs.tested_below.Statement.{statement}
+use Rattle.logarithms.proofs.tested_below.Tie as tie
 
 add-parts : tie.Need-add-parts
 add-parts c = search needs

@@ -4,8 +4,8 @@ use Prim.Native.Nat.{ℕ, suc, _+_, _*_, _/_, _^_, _≤_, _<_}
 use native.Mathlib.Nat.{le-trans, le-of-eq, mul-comm, pow-le-pow-left, pow-le-pow-right, zero-lt-suc}
 use native.Mathlib.Omega.{arith}
 use lib.Dec.{leb→le}
-use Rattle.elementary.specs.Inside.Logarithm.{TenLog}
-use Rattle.elementary.proofs.logarithms.Powers.{pow-of-pow, root-le}
+use Rattle.logarithms.specs.Inside.Logarithm.{TenLog}
+use Rattle.logarithms.proofs.Powers.{pow-of-pow, root-le}
 
 under : 10 ^ 21306 ≤ 2 ^ 70777
 under = leb→le (10 ^ 21306) (2 ^ 70777) tt

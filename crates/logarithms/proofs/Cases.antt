@@ -9,7 +9,7 @@ use lib.Dec.{ltb, eqb}
 use lib.IntN.{ℤ, pos}
 use lib.Ieee.{Float, nan, inf, fin, up, down, level, lt, eq}
 use lib.Ieee.Fits.{up-pos}
-use Rattle.elementary.specs.Log10.{Log10, Near}
+use Rattle.logarithms.specs.Log10.{Log10, Near}
 
 abbrev nought : Float
 nought = fin false 0 (pos 0)

@@ -2,10 +2,10 @@
 use mathlib.Core.Path.{sym, subst}
 use lib.Dec.{T}
 use lib.Ieee.{ofBits, div, neg}
-use Rattle.elementary.specs.Inside.LogarithmValues.{log10}
-use Rattle.elementary.proofs.logarithms.Cases.{is-number, is-inf, is-zero, is-none}
-use Rattle.elementary.proofs.logarithms.log10.Statement.{statement}
-use Rattle.elementary.proofs.logarithms.log10.Tie as tie
+use Rattle.logarithms.specs.Inside.LogarithmValues.{log10}
+use Rattle.logarithms.proofs.Cases.{is-number, is-inf, is-zero, is-none}
+use Rattle.logarithms.proofs.log10.Statement.{statement}
+use Rattle.logarithms.proofs.log10.Tie as tie
 
 log-above-zero-requires : tie.Need-log-above-zero-requires
 unfolding ofBits div

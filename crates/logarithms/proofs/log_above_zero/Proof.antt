@@ -4,11 +4,11 @@ use Prim.Native.Nat.{ℕ, _+_, _-_, _^_, _≤_, _<_}
 use native.Mathlib.Omega.{arith}
 use borrow.Author.Needs.{needs}
 use borrow.Author.Tests.{lt-ltb, le-ltb}
-use Rattle.elementary.specs.Inside.LogarithmValues.{logAboveZero}
+use Rattle.logarithms.specs.Inside.LogarithmValues.{logAboveZero}
 use Rattle.circle.proofs.fixed.Order.{above-of}
-use Rattle.elementary.proofs.logarithms.Bridge.{near-under, near-over}
-use Rattle.elementary.proofs.logarithms.log_above_zero.Statement.{statement}
-use Rattle.elementary.proofs.logarithms.log_above_zero.Tie as tie
+use Rattle.logarithms.proofs.Bridge.{near-under, near-over}
+use Rattle.logarithms.proofs.log_above_zero.Statement.{statement}
+use Rattle.logarithms.proofs.log_above_zero.Tie as tie
 
 unpack-requires : tie.Need-unpack-requires
 unpack-requires c κs = above-of (c .args .x) (c .pre .0) (c .pre .1)

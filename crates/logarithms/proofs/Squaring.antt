@@ -4,8 +4,8 @@ use Prim.Native.Nat.{ℕ, zero, suc, _+_, _*_, _/_, _^_, _≤_, _<_}
 use native.Mathlib.Nat.{le-trans, le-of-eq, mul-le-mul, mul-le-mul-right, mul-le-mul-left, mul-assoc, mul-comm, mul-left-comm, mul-pos, le-of-mul-le-mul-right, pow-zero, pow-suc, two-pow-succ, one-mul}
 use native.Mathlib.Omega.{arith}
 use lib.Pow.{pow-add, pow-pos, pow-mono}
-use Rattle.elementary.specs.Inside.Logarithm.{fine, BinaryLog}
-use Rattle.elementary.proofs.logarithms.Powers.{twice, power-pos}
+use Rattle.logarithms.specs.Inside.Logarithm.{fine, BinaryLog}
+use Rattle.logarithms.proofs.Powers.{twice, power-pos}
 
 -- ---- one turn, with every power a plain number: c is 2 ^ 31, d is 2 ^ k and h is 2 ^ b for the digit b
 lower : (A y z c d h : ℕ) → 0 < c → y * d ≤ A * c → z * (c * h) ≤ y * y → z * (d * d * h) ≤ A * A * c

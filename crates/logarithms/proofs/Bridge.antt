@@ -9,10 +9,10 @@ use lib.Ieee.{Float}
 use lib.Ieee.Scale.{finite}
 use lib.Ieee.Positive.{num, den}
 use Rattle.circle.specs.Within.{plus, less}
-use Rattle.elementary.specs.Log10.{Near}
+use Rattle.logarithms.specs.Log10.{Near}
 use Rattle.circle.specs.Inside.Fixed.{Lies}
-use Rattle.elementary.specs.Inside.Logarithm.{fine, BinaryLog, TenLog}
-use Rattle.elementary.proofs.logarithms.Powers.{pow-of-pow, pow-of-mul, root-le, power-pos}
+use Rattle.logarithms.specs.Inside.Logarithm.{fine, BinaryLog, TenLog}
+use Rattle.logarithms.proofs.Powers.{pow-of-pow, pow-of-mul, root-le, power-pos}
 
 -- ---- from Z / D to an equal fraction a / c
 moved : (a c Z D S T F : ℕ) → 0 < D → a * D ≡ Z * c → Z ^ F * S ≤ T * D ^ F → a ^ F * S ≤ T * c ^ F

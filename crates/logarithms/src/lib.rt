@@ -8,11 +8,11 @@ ghost use lib.IntN.{pos};
 ghost use lib.Ieee as Ieee;
 ghost use lib.Ieee.{fin, inf};
 ghost use lib.Ieee.Exact.{HasValue};
-ghost use Rattle.elementary.specs.Log10.{Log10, Near};
+ghost use Rattle.logarithms.specs.Log10.{Log10, Near};
 ghost use Rattle.circle.specs.Inside.Fixed.{Lies};
-ghost use Rattle.elementary.specs.Inside.Logarithm.{BinaryLog, TenLog};
-ghost use Rattle.elementary.specs.Functions as Functions;
-ghost use Rattle.elementary.specs.Inside.LogarithmValues.{binaryLog, tenLog, parts, guess, testedBelow, testedAbove, logAboveZero};
+ghost use Rattle.logarithms.specs.Inside.Logarithm.{BinaryLog, TenLog};
+ghost use Rattle.logarithms.specs.Functions as Functions;
+ghost use Rattle.logarithms.specs.Inside.LogarithmValues.{binaryLog, tenLog, parts, guess, testedBelow, testedAbove, logAboveZero};
 
 // The binary logarithm of m, in units of 2^-22 and cut to a whole number of them or one below that.
 // y / 2^31 lies from 1 to 2. Each turn squares it, and where the square reaches 2 the next binary

@@ -1,10 +1,10 @@
 -- `logarithms::ten_log` meets its contract. Assumes nothing.
 use mathlib.Core.Path.{refl}
 use borrow.Author.Needs.{needs}
-use Rattle.elementary.specs.Inside.LogarithmValues.{tenLog}
-use Rattle.elementary.proofs.logarithms.Tens.{ten-log-is}
-use Rattle.elementary.proofs.logarithms.ten_log.Statement.{statement}
-use Rattle.elementary.proofs.logarithms.ten_log.Tie as tie
+use Rattle.logarithms.specs.Inside.LogarithmValues.{tenLog}
+use Rattle.logarithms.proofs.Tens.{ten-log-is}
+use Rattle.logarithms.proofs.ten_log.Statement.{statement}
+use Rattle.logarithms.proofs.ten_log.Tie as tie
 
 mul-result : tie.Need-mul-result
 mul-result c = search needs

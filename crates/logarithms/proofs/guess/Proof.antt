@@ -4,9 +4,9 @@ use Prim.Native.Nat.{_^_}
 use native.Mathlib.Nat.{le-of-lt}
 use lib.Dec.{le→leb}
 use lib.Ieee.{inFloat}
-use Rattle.elementary.specs.Inside.LogarithmValues.{guessOf, guess}
-use Rattle.elementary.proofs.logarithms.guess.Statement.{statement}
-use Rattle.elementary.proofs.logarithms.guess.Tie as tie
+use Rattle.logarithms.specs.Inside.LogarithmValues.{guessOf, guess}
+use Rattle.logarithms.proofs.guess.Statement.{statement}
+use Rattle.logarithms.proofs.guess.Tie as tie
 
 int-to-float-f : tie.Need-int-to-float-f
 unfolding inFloat

@@ -4,4 +4,3 @@ pub mod Squaring
 pub mod Tens
 pub mod Bridge
 pub mod Cases
-pub mod PowersOfTen

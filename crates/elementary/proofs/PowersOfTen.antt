@@ -12,9 +12,9 @@ use lib.Ieee.Fits.{and-l, and-r}
 use lib.Ieee.Positive.{num, den}
 use lib.Ieee.Scale.{finite}
 use Rattle.circle.specs.Within.{plus, less}
-use Rattle.elementary.specs.Log10.{Near}
+use Rattle.logarithms.specs.Log10.{Near}
 use Rattle.elementary.specs.Examples.{isLogOfPower, AtPowersOfTen}
-use Rattle.elementary.proofs.logarithms.Powers.{power-pos, pow-of-pow}
+use Rattle.logarithms.proofs.Powers.{power-pos, pow-of-pow}
 
 -- powers of ten are in the order of their exponents
 exponents : (a b : ℕ) → 10 ^ a ≤ 10 ^ b → a ≤ b

@@ -4,10 +4,10 @@ use Prim.Native.Nat.{ℕ, _*_, _-_, _^_, _≤_, _<_}
 use native.Mathlib.Omega.{arith}
 use borrow.Author.Needs.{needs}
 use native.Mathlib.Numerals.{add-one}
-use Rattle.elementary.specs.Inside.LogarithmValues.{turned, binaryLog}
-use Rattle.elementary.proofs.logarithms.Squaring.{Close, turn, close-first, close-next, close-last, square-in, few}
-use Rattle.elementary.proofs.logarithms.binary_log.Statement.{statement}
-use Rattle.elementary.proofs.logarithms.binary_log.Tie as tie
+use Rattle.logarithms.specs.Inside.LogarithmValues.{turned, binaryLog}
+use Rattle.logarithms.proofs.Squaring.{Close, turn, close-first, close-next, close-last, square-in, few}
+use Rattle.logarithms.proofs.binary_log.Statement.{statement}
+use Rattle.logarithms.proofs.binary_log.Tie as tie
 
 abbrev Inv-loop : tie.InvT-loop
 Inv-loop m y₀ k₀ i₀ y k i = (i ≤ 22) × Close m y k i × (y ≡ turned m i .y) × (k ≡ turned m i .k)

@@ -1,0 +1,3 @@
+pub mod Log10
+pub mod Inside
+pub mod Functions
