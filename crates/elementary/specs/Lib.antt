@@ -1,3 +1,1 @@
-pub mod Arctangent
-pub mod Inside
 pub mod Examples

@@ -1,7 +1,5 @@
-// Sine, cosine, decimal logarithm and arctangent. Each is total; specs/ says how near to the exact
-// value it is, and where it is exact.
-mod arctangents;
-
+// Sine, cosine, decimal logarithm and arctangent, each from its own crate. Each is total; that crate's
+// specs/ says how near to the exact value it is, and where it is exact.
 pub use arctangents::arctangent;
 pub use logarithms::log10;
 pub use sines::cosine;

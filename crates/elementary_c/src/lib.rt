@@ -5,7 +5,7 @@ ghost use Rattle.sines.specs.Functions as Sines;
 ghost use Rattle.sines.specs.Sine.{Sine, Cosine};
 ghost use Rattle.logarithms.specs.Functions as Logarithms;
 ghost use Rattle.logarithms.specs.Log10.{Log10};
-ghost use Rattle.elementary.specs.Arctangent.{Arctangent};
+ghost use Rattle.arctangents.specs.Arctangent.{Arctangent};
 
 #[no_mangle]
 pub extern "C" fn elementary_sine(x: f64) -> f64
