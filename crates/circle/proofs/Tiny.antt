@@ -4,8 +4,7 @@ use Prim.Native.Nat.{ℕ, suc, _+_, _-_, _*_, _^_, _≤_, _<_}
 use native.Mathlib.Nat.{le-trans, le-of-eq, mul-comm, mul-assoc, mul-left-comm, mul-right-comm, mul-le-mul, mul-le-mul-right, le-of-mul-le-mul-left, mul-pos, zero-lt-suc, lt-of-lt-of-le, mul-mul-mul-comm}
 use native.Mathlib.Omega.{arith}
 use lib.Pow.{pow-pos}
-use Rattle.circle.specs.Series.{east, north, west, south, part}
-use Rattle.circle.specs.Series.{term}
+use Rattle.circle.specs.Series.{east, north, west, south, part, term}
 use Rattle.circle.specs.Inside.Fixed.{Apart}
 use Rattle.circle.specs.Inside.Circle.{State}
 use Rattle.circle.proofs.Terms.{term-law}

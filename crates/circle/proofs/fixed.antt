@@ -1,4 +1,4 @@
--- Whole numbers as doubles, and doubles in order.
+-- Whole numbers as doubles, doubles in order, and zero among them.
 pub mod Exactly
 pub mod Order
 pub mod Zero
