@@ -70,6 +70,16 @@ none-applies false true c h = absurd (omega arith)
 none-applies false false true h = (refl, refl, refl)
 none-applies false false false h = absurd (omega arith)
 
+-- the last of 4, 5 and 6: by the limit alone
+module _ (limit : Float) (x : Mode) (p : Bool) (r : outOfRange x ≡ false) (hp : p ≡ noParameter (x .c)) (np : p ≡ false) (h : Float) (e : h ≡ hOf (x .n - x .m) (x .c)) where
+  pub below-limit : lt h limit ≡ true → 0 ≡ refusalOf limit x
+  unfolding refusalOf
+  below-limit t = rw (r, ← hp, np, ← e, t)
+
+  pub at-limit : lt h limit ≡ false → 6 ≡ refusalOf limit x
+  unfolding refusalOf
+  at-limit t = rw (r, ← hp, np, ← e, t)
+
 passes : (limit : Float) (x : Mode) → refusalOf limit x ≡ 0 → (outOfRange x ≡ false) × (noParameter (x .c) ≡ false) × (lt (hOf (x .n - x .m) (x .c)) limit ≡ true)
 unfolding refusalOf
 passes limit x h = none-applies (outOfRange x) (noParameter (x .c)) (lt (hOf (x .n - x .m) (x .c)) limit) h

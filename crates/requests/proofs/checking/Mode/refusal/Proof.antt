@@ -29,12 +29,10 @@ h-requires : tie.Need-h-requires
 h-requires c κs = search needs
 
 returns-5 : tie.Need-returns-5
-unfolding refusalOf
-returns-5 c = rw (laws.in-range (c .before .before .before .before .before .before .before .before .before .before .args .self) (c .before .before .before .before .before .before .before .before .if1 .left) (c .before .before .before .before .before .before .if2 .left) (c .before .before .before .before .if3 .left), ← (c .before .before .before .no-parameter .ensures), c .before .before .if4 .left, ← (c .before .h .ensures), c .if5 .taken)
+returns-5 c = laws.below-limit _ _ _ (laws.in-range (c .before .before .before .before .before .before .before .before .before .before .args .self) (c .before .before .before .before .before .before .before .before .if1 .left) (c .before .before .before .before .before .before .if2 .left) (c .before .before .before .before .if3 .left)) (c .before .before .before .no-parameter .ensures) (c .before .before .if4 .left) _ (c .before .h .ensures) (c .if5 .taken)
 
 returns-6 : tie.Need-returns-6
-unfolding refusalOf
-returns-6 c = rw (laws.in-range (c .before .before .before .before .before .before .before .before .before .before .args .self) (c .before .before .before .before .before .before .before .before .if1 .left) (c .before .before .before .before .before .before .if2 .left) (c .before .before .before .before .if3 .left), ← (c .before .before .before .no-parameter .ensures), c .before .before .if4 .left, ← (c .before .h .ensures), c .if5 .left)
+returns-6 c = laws.at-limit _ _ _ (laws.in-range (c .before .before .before .before .before .before .before .before .before .before .args .self) (c .before .before .before .before .before .before .before .before .if1 .left) (c .before .before .before .before .before .before .if2 .left) (c .before .before .before .before .if3 .left)) (c .before .before .before .no-parameter .ensures) (c .before .before .if4 .left) _ (c .before .h .ensures) (c .if5 .left)
 
 pub refusal-spec : {M : Type 1} → statement M
 refusal-spec =
