@@ -7,3 +7,5 @@ pub mod Nearly
 pub mod Upto
 pub mod Distinct
 pub mod Rotated
+pub mod Turns
+pub mod Sure

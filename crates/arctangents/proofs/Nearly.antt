@@ -9,7 +9,7 @@ use Rattle.circle.specs.Inside.Fixed.{IsHigh}
 use Rattle.circle.specs.Inside.Signed.{plus, less}
 use Rattle.arctangents.specs.Inside.Arctangent.{Good}
 
-shifted : (m : ℕ) → m < 2 ^ 53 → m * 1024 % 2 ^ 64 ≡ m * 2 ^ 10
+pub shifted : (m : ℕ) → m < 2 ^ 53 → m * 1024 % 2 ^ 64 ≡ m * 2 ^ 10
 shifted m h = mod-eq-of-lt (go m h)
   where
     go : (m : ℕ) → m < 2 ^ 53 → m * 1024 < 2 ^ 64

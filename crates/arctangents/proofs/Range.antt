@@ -64,6 +64,12 @@ fine-of a b y Z B h v l u = record {
     turn : 2 * b * 2 ^ 58 ≡ 2 ^ 59 * b
     turn = mul-right-comm 2 b (2 ^ 58)
 
+pub fine-shifted : (m : ℕ) → m < 2 ^ 53 → m * 2 ^ 6 % 2 ^ 64 ≡ m * 2 ^ 6
+fine-shifted m u = mod-eq-of-lt (wide m u)
+  where
+    wide : (m : ℕ) → m < 2 ^ 53 → m * 2 ^ 6 < 2 ^ 64
+    wide m u = omega arith
+
 module _ (a b m e : ℕ) (B : 0 < b) (h : a < 2 * b) (l : 2 ^ 52 ≤ m) (u : m < 2 ^ 53) (v : a * (2 ^ 1074 * 2 ^ 1074) ≡ m * 2 ^ e * b) where
   moved : a * (2 ^ 1074 * 2 ^ 1074) * 2 ^ 6 ≡ m * 2 ^ 6 * 2 ^ e * b
   moved = ap (λ (z : ℕ). z * 2 ^ 6) v ∙ turn (2 ^ e) (2 ^ 6)
@@ -90,11 +96,8 @@ module _ (a b m e : ℕ) (B : 0 < b) (h : a < 2 * b) (l : 2 ^ 52 ≤ m) (u : m <
       high = lt-of-mul-lt-mul-right b (lt-of-le-of-lt (le-of-eq (sym v)) (lt-of-lt-of-le (mul-lt-mul-of-pos-right h (mul-pos (pow-pos 1074) (pow-pos 1074))) (le-of-eq (mul-right-comm 2 b (2 ^ 1074 * 2 ^ 1074)))))
 
   pub fine-some : IsFine a b (m * 2 ^ 6 % 2 ^ 64 / 2 ^ (2096 - e))
-  fine-some = subst (λ (z : ℕ). IsFine a b (z / g)) (sym (mod-eq-of-lt (wide m u))) (fine-of a b (m * 2 ^ 6 / g) (m * 2 ^ 6 * 2 ^ e) B h moved lower upper)
+  fine-some = subst (λ (z : ℕ). IsFine a b (z / g)) (sym (fine-shifted m u)) (fine-of a b (m * 2 ^ 6 / g) (m * 2 ^ 6 * 2 ^ e) B h moved lower upper)
     where
-      wide : (m : ℕ) → m < 2 ^ 53 → m * 2 ^ 6 < 2 ^ 64
-      wide m u = omega arith
-
       g : ℕ
       g = 2 ^ (2096 - e)
 

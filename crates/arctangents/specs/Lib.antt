@@ -1,2 +1,4 @@
 pub mod Arctangent
 pub mod Inside
+pub mod Functions
+pub mod Examples

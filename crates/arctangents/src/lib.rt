@@ -1,6 +1,6 @@
-// The arctangent of a double: a guess in doubles, to the last bits, of which nothing is proved, and a
-// test in whole numbers that the arctangent lies within 2^-40 of it. sin t - x * cos t tells on which
-// side of the arctangent of x a t from 0 to 2 lies.
+// The arctangent of a double: a guess in doubles, to the last bits, with no proof of how near it is,
+// and a test in whole numbers that the arctangent lies within 2^-40 of it. sin t - x * cos t tells on
+// which side of the arctangent of x a t from 0 to 2 lies.
 ghost use mathlib.Core.Path.{_≡_};
 ghost use mathlib.Core.Bool.{false, true};
 ghost use Prim.Native.Nat.{_+_, _*_, _^_, _≤_, _<_};
@@ -10,12 +10,15 @@ ghost use lib.Ieee as Ieee;
 ghost use lib.Ieee.{fin, inf};
 ghost use lib.Ieee.Positive.{num, den};
 ghost use Rattle.arctangents.specs.Arctangent.{IsArctangent, Arctangent};
+ghost use Rattle.arctangents.specs.Functions as Functions;
+ghost use Rattle.arctangents.specs.Inside.ArctangentValues as ArctangentValues;
 ghost use Rattle.arctangents.specs.Inside.Arctangent.{IsFine, Above, Below, IsFurther, Good, NearlyAbove, NearlyBelow, Between, IsHalved, Found};
 
 // Whether p * 2^i is at most q * 2^j, where that is sure.
 fn reaches(p: u64, q: u64, i: u64, j: u64) -> bool
     ensures { λ r. ⌜ (r ≡ true → p * 2 ^ i ≤ q * 2 ^ j) ⌝ }
     ensures { λ r. ⌜ (r ≡ false → 0 < p → q * 2 ^ j ≤ p * 2 ^ i + 2 ^ j) ⌝ }
+    ensures { λ r. ⌜ r ≡ ArctangentValues.reaches p q i j ⌝ }
 {
     if i <= j {
         let d = j - i;
@@ -37,6 +40,7 @@ fn above(c: u64, cn: u64, s: u64, sn: u64, m: u64, e: u64) -> bool
     requires { ⌜ (2 ^ 52 ≤ m) × (m < 2 ^ 53) ⌝ }
     ensures { λ r. ⌜ (r ≡ true → Above cn c sn s m e) ⌝ }
     ensures { λ r. ⌜ (r ≡ false → Good cn c sn s → NearlyBelow cn c sn s m e) ⌝ }
+    ensures { λ r. ⌜ r ≡ ArctangentValues.above c cn s sn m e ⌝ }
 {
     if 0 < sn {
         return false;
@@ -71,6 +75,7 @@ fn below(c: u64, cn: u64, s: u64, sn: u64, m: u64, e: u64) -> bool
     requires { ⌜ (2 ^ 52 ≤ m) × (m < 2 ^ 53) ⌝ }
     ensures { λ r. ⌜ (r ≡ true → Below cn c sn s m e) ⌝ }
     ensures { λ r. ⌜ (r ≡ false → Good cn c sn s → NearlyAbove cn c sn s m e) ⌝ }
+    ensures { λ r. ⌜ r ≡ ArctangentValues.below c cn s sn m e ⌝ }
 {
     if 0 < cn {
         return false;
@@ -94,6 +99,7 @@ fn below(c: u64, cn: u64, s: u64, sn: u64, m: u64, e: u64) -> bool
 fn further(c: u64, s: u64) -> circle::Pair
     requires { ⌜ (c ≤ 9 * 2 ^ 60) × (s ≤ 9 * 2 ^ 60) ⌝ }
     ensures { λ r. ⌜ IsFurther c s (r .cn) (r .c) (r .sn) (r .s) ⌝ }
+    ensures { λ r. ⌜ r ≡ ArctangentValues.further c s ⌝ }
 {
     let t = s >> 40;
     if c < t {
@@ -117,6 +123,7 @@ fn further(c: u64, s: u64) -> circle::Pair
 fn encloses(low: u64, m: u64, e: u64) -> bool
     requires { ⌜ (low + 2 ^ 18 ≤ 2 ^ 59) × (2 ^ 52 ≤ m) × (m < 2 ^ 53) ⌝ }
     ensures { λ r. ⌜ (r ≡ true → Between low (low + 2 ^ 18) m e) ⌝ }
+    ensures { λ r. ⌜ r ≡ ArctangentValues.encloses low m e ⌝ }
 {
     let p = circle::circle(low, 5);
     let c = p.c;
@@ -147,6 +154,7 @@ fn encloses(low: u64, m: u64, e: u64) -> bool
 fn fine(g: f64) -> u64
     requires { ⌜ T (Ieee.lt (fin false 0 (pos 0)) g) ⌝ ∗ ⌜ T (Ieee.lt g (fin false 1 (pos 1))) ⌝ }
     ensures { λ r. ⌜ IsFine (num g) (den g) r ⌝ }
+    ensures { λ r. ⌜ r ≡ ArctangentValues.fine g ⌝ }
 {
     let s = circle::fixed::unpack(g);
     let m = s.m;
@@ -160,6 +168,7 @@ fn fine(g: f64) -> u64
 // y less 2^17, or 0.
 fn beneath(y: u64) -> u64
     ensures { λ r. ⌜ (r ≤ y) × (y ≤ r + 2 ^ 17) ⌝ }
+    ensures { λ r. ⌜ r ≡ ArctangentValues.beneath y ⌝ }
 {
     if y < 0x20000 {
         return 0;
@@ -168,7 +177,9 @@ fn beneath(y: u64) -> u64
 }
 
 // The arctangent of t, up to 3/16, less t, by its series to the 21st power.
-fn arctangent_series(t: f64) -> f64 {
+fn arctangent_series(t: f64) -> f64
+    ensures { λ r. ⌜ r ≡ ArctangentValues.arctangentSeries t ⌝ }
+{
     let z = t * t;
     let w = z * z;
     let odd = -1.0 / 3.0
@@ -178,14 +189,18 @@ fn arctangent_series(t: f64) -> f64 {
 }
 
 // The arctangent of t and the number high + low.
-fn beside(t: f64, high: f64, low: f64) -> f64 {
+fn beside(t: f64, high: f64, low: f64) -> f64
+    ensures { λ r. ⌜ r ≡ ArctangentValues.beside t high low ⌝ }
+{
     high + (t + (arctangent_series(t) + low))
 }
 
 // An arctangent of an x above zero: that of a number c of few digits, and that of
 // (x - c) / (1 + x * c), which is at most about 1/8. Below 3/16 the series alone is more exact.
-// Nothing is proved of it; what it gives is tested.
-fn guess(x: f64) -> f64 {
+// How near it is is not proved; what it gives is tested.
+fn guess(x: f64) -> f64
+    ensures { λ r. ⌜ r ≡ ArctangentValues.guess x ⌝ }
+{
     if x < 0.1875 {
         return x + arctangent_series(x);
     }
@@ -245,6 +260,7 @@ struct Bracket {
 fn halved(low: u64, up: u64, m: u64, e: u64) -> Bracket
     requires { ⌜ (low + 0x3ffc0 < up) × (up ≤ 2 ^ 59) × (2 ^ 52 ≤ m) × (m < 2 ^ 53) × Between low up m e ⌝ }
     ensures { λ r. ⌜ IsHalved low up m e (r .low) (r .up) ⌝ }
+    ensures { λ r. ⌜ r ≡ ArctangentValues.halved low up m e ⌝ }
 {
     let mid = low + (up - low) / 2;
     let p = circle::circle(mid, 5);
@@ -278,6 +294,7 @@ fn halved(low: u64, up: u64, m: u64, e: u64) -> Bracket
 fn bisected(m: u64, e: u64) -> u64
     requires { ⌜ (2 ^ 52 ≤ m) × (m < 2 ^ 53) ⌝ }
     ensures { λ r. ⌜ Found m e r ⌝ }
+    ensures { λ r. ⌜ r ≡ ArctangentValues.bisected m e ⌝ }
 {
     let mut low: u64 = 0;
     let mut up: u64 = 0x800_0000_0000_0000;
@@ -289,10 +306,12 @@ fn bisected(m: u64, e: u64) -> u64
     low
 }
 
-// The arctangent of a finite x above zero. Nothing is proved of the guess, so its bounds are tested.
+// The arctangent of a finite x above zero. How near the guess is is not proved, so its bounds are
+// tested.
 fn arctangent_above_zero(x: f64) -> f64
     requires { ⌜ T (Ieee.lt (fin false 0 (pos 0)) x) ⌝ ∗ ⌜ T (Ieee.lt x (inf false)) ⌝ }
     ensures { λ r. ⌜ IsArctangent x r ⌝ }
+    ensures { λ r. ⌜ r ≡ ArctangentValues.arctangentAboveZero x ⌝ }
 {
     let s = circle::fixed::unpack(x);
     let m = s.m;
@@ -315,6 +334,7 @@ fn arctangent_above_zero(x: f64) -> f64
 fn ranged_arctangent(x: f64) -> f64
     requires { ⌜ T (Ieee.le (fin false 0 (pos 0)) x) ⌝ ∗ ⌜ T (Ieee.lt x (inf false)) ⌝ }
     ensures { λ r. ⌜ IsArctangent x r ⌝ }
+    ensures { λ r. ⌜ r ≡ ArctangentValues.rangedArctangent x ⌝ }
 {
     if 0.0 < x { arctangent_above_zero(x) } else { x }
 }
@@ -322,6 +342,7 @@ fn ranged_arctangent(x: f64) -> f64
 // The arctangent of x, from 0 on: π/2 for the infinity. NaN below zero.
 pub fn arctangent(x: f64) -> f64
     ensures { λ r. ⌜ Arctangent x r ⌝ }
+    ensures { λ r. ⌜ r ≡ Functions.arctangent x ⌝ }
 {
     if 0.0 <= x {
         if x < 1.0 / 0.0 {

@@ -5,6 +5,7 @@ ghost use Rattle.sines.specs.Functions as Sines;
 ghost use Rattle.sines.specs.Sine.{Sine, Cosine};
 ghost use Rattle.logarithms.specs.Functions as Logarithms;
 ghost use Rattle.logarithms.specs.Log10.{Log10};
+ghost use Rattle.arctangents.specs.Functions as Arctangents;
 ghost use Rattle.arctangents.specs.Arctangent.{Arctangent};
 
 #[no_mangle]
@@ -34,6 +35,7 @@ pub extern "C" fn elementary_log10(x: f64) -> f64
 #[no_mangle]
 pub extern "C" fn elementary_arctangent(x: f64) -> f64
     ensures { λ r. ⌜ Arctangent x r ⌝ }
+    ensures { λ r. ⌜ r ≡ Arctangents.arctangent x ⌝ }
 {
     elementary::arctangent(x)
 }

@@ -5,6 +5,7 @@ use lib.Dec.{T}
 use lib.IntN.{pos}
 use lib.Ieee.{Float, inf, fin, le, lt, ofBits, div}
 use Rattle.circle.proofs.fixed.Zero.{clash}
+use Rattle.arctangents.specs.Inside.ArctangentValues as ArctangentValues
 use Rattle.arctangents.proofs.arctangent.Statement.{statement}
 use Rattle.arctangents.proofs.arctangent.Tie as tie
 
@@ -26,16 +27,16 @@ unfolding ofBits div
 ranged-arctangent-requires c κs = (subst T (sym (c .before .if1 .taken)) tt, subst T (sym (c .if2 .taken)) tt)
 
 returns : tie.Need-returns
-unfolding ofBits div
-returns c = record { near = λ h k. c .ranged-arctangent .ensures; infinite = λ e. absurd (not-below (c .before .before .before .args .x) e (c .before .if2 .taken)); outside = λ t. absurd (kept _ (c .before .before .if1 .taken) t) }
+unfolding ArctangentValues.arctangent ofBits div
+returns c = (record { near = λ h k. c .ranged-arctangent .ensures .0; infinite = λ e. absurd (not-below (c .before .before .before .args .x) e (c .before .if2 .taken)); outside = λ t. absurd (kept _ (c .before .before .if1 .taken) t) }, rw (c .before .before .if1 .taken, c .before .if2 .taken, c .ranged-arctangent .ensures .1))
 
 returns-2 : tie.Need-returns-2
-unfolding ofBits div
-returns-2 c = record { near = λ h k. absurd (clash _ (c .if2 .left) k); infinite = λ e. refl; outside = λ t. absurd (kept _ (c .before .if1 .taken) t) }
+unfolding ArctangentValues.arctangent ofBits div
+returns-2 c = (record { near = λ h k. absurd (clash _ (c .if2 .left) k); infinite = λ e. refl; outside = λ t. absurd (kept _ (c .before .if1 .taken) t) }, rw (c .before .if1 .taken, c .if2 .left))
 
 returns-3 : tie.Need-returns-3
-unfolding ofBits div
-returns-3 c = record { near = λ h k. absurd (clash _ (c .if1 .left) h); infinite = λ e. absurd (not-under (c .before .args .x) e (c .if1 .left)); outside = λ t. refl }
+unfolding ArctangentValues.arctangent ofBits div
+returns-3 c = (record { near = λ h k. absurd (clash _ (c .if1 .left) h); infinite = λ e. absurd (not-under (c .before .args .x) e (c .if1 .left)); outside = λ t. refl }, rw (c .if1 .left))
 
 pub arctangent-spec : {M : Type 1} → statement M
 arctangent-spec = tie.close (tie.spec ranged-arctangent-requires returns returns-2 returns-3)
