@@ -6,3 +6,4 @@ pub mod Unsigned
 pub mod Laws
 pub mod Exact
 pub mod Units
+pub mod Zeros

@@ -74,6 +74,9 @@ abbrev pub #1e-200 : Float
 abbrev pub #1e-100 : Float
 #1e-100 = bits 0x2b2b_ff2e_e48e_0530
 
+abbrev pub #1e-60 : Float
+#1e-60 = bits 0x3379_b604_aaac_a626
+
 abbrev pub #1e-30 : Float
 #1e-30 = bits 0x39b4_484b_feeb_c2a0
 
@@ -82,6 +85,9 @@ abbrev pub #1e-14 : Float
 
 abbrev pub #1e-10 : Float
 #1e-10 = bits 0x3ddb_7cdf_d9d7_bdbb
+
+abbrev pub #1e-8 : Float
+#1e-8 = bits 0x3e45_798e_e230_8c3a
 
 abbrev pub #1e100 : Float
 #1e100 = bits 0x54b2_49ad_2594_c37d

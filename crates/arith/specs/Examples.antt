@@ -4,7 +4,7 @@ use mathlib.Core.List.{List, [], _∷_, map}
 use mathlib.Core.Bool.{false}
 use Prim.Native.Nat.{ℕ, _^_}
 use lib.Ieee.{Float, binary64, round, ofBits, toBits}
-use Rattle.arith.specs.Double.{bits, bitsOf, #0, #0·5, #1, #1·5, #π/2, #2, #3, #4, #5, #1e-280, #1e-200, #1e-100, #1e-30, #1e-14, #1e-10, #1e100, #1e300}
+use Rattle.arith.specs.Double.{bits, bitsOf, #0, #0·5, #1, #1·5, #π/2, #2, #3, #4, #5, #1e-280, #1e-200, #1e-100, #1e-60, #1e-30, #1e-14, #1e-10, #1e-8, #1e100, #1e300}
 use Rattle.arith.specs.Root.{sqrt}
 
 -- ---- roots
@@ -62,9 +62,11 @@ constants =
     (#1e-280, 1, 10 ^ 280) ∷
     (#1e-200, 1, 10 ^ 200) ∷
     (#1e-100, 1, 10 ^ 100) ∷
+    (#1e-60, 1, 10 ^ 60) ∷
     (#1e-30, 1, 10 ^ 30) ∷
     (#1e-14, 1, 10 ^ 14) ∷
     (#1e-10, 1, 10 ^ 10) ∷
+    (#1e-8, 1, 10 ^ 8) ∷
     (#1e100, 10 ^ 100, 1) ∷
     (#1e300, 10 ^ 300, 1) ∷
     []

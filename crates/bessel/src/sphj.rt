@@ -52,10 +52,10 @@ pub fn find_orders(x: f64, n: u32) -> Orders
 }
 
 // The functions of order 0 and 1, and the derivative of the first.
-struct Lowest {
-    sa: f64,
-    sb: f64,
-    da: f64,
+pub(crate) struct Lowest {
+    pub sa: f64,
+    pub sb: f64,
+    pub da: f64,
 }
 
 fn lowest_orders(x: f64) -> Lowest
@@ -121,7 +121,7 @@ fn scale(cs: f64, n: u32, sj: &mut [f64; 252])
 }
 
 // The derivatives of order 1 to nm, from the functions.
-fn derive(x: f64, nm: u32, sj: &[f64; 252], dj: &mut [f64; 252])
+pub(crate) fn derive(x: f64, nm: u32, sj: &[f64; 252], dj: &mut [f64; 252])
     requires { ⌜ nm < 252 ⌝ }
     ensures { λ _. ⌜ now (dj .exit) ≡ Sphj.derived x (now (sj .entry)) nm (now (dj .entry)) ⌝ }
 {

@@ -14,6 +14,7 @@ ghost use Rattle.joining.specs.Cbk as Cbk;
 ghost use Rattle.bessel.specs.Msta1 as Msta1;
 ghost use Rattle.bessel.specs.Msta2 as Msta2;
 ghost use Rattle.bessel.specs.Sphj as Sphj;
+ghost use Rattle.bessel.specs.Sphy as Sphy;
 
 // kd is 1 or -1.
 #[no_mangle]
@@ -126,4 +127,16 @@ pub extern "C" fn routines_sphj(x: f64, n: u32, sj: &mut [f64; 252], dj: &mut [f
         return 0;
     }
     nm
+}
+
+// The highest order that counts as computed.
+#[no_mangle]
+pub extern "C" fn routines_sphy(x: f64, n: u32, sy: &mut [f64; 252], dy: &mut [f64; 252]) -> u32
+    requires { ⌜ (2 ≤ n) × (n < 252) ⌝ }
+    ensures { λ r. ⌜ r ≡ Sphy.highest x n ⌝ }
+    ensures { λ _. ⌜ (now (sy .exit) ≡ Sphy.sy x n) × (now (dy .exit) ≡ Sphy.dy x n) ⌝ }
+{
+    *sy = bessel::sphj::blank();
+    *dy = bessel::sphj::blank();
+    bessel::sphy::sphy(x, n, sy, dy)
 }
