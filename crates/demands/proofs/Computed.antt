@@ -10,10 +10,12 @@ use Rattle.circle.specs.Inside.CircleValues as Circle
 use Rattle.sines.specs.Inside.SmallValues as Small
 use Rattle.sines.specs.Inside.SineValues as Sines
 use Rattle.logarithms.specs.Inside.LogarithmValues as Logarithms
+use Rattle.arctangents.specs.Inside.ArctangentValues as Arctangents
 use Rattle.bessel.specs.Secant as Secant
 use Rattle.bessel.specs.Msta1.{firstOrder, msta1}
 use Rattle.bessel.specs.Msta2.{searchFor, tenMore, msta2}
 use Rattle.bessel.specs.Sphj as Sphj
+use Rattle.bessel.specs.Sphy as Sphy
 use Rattle.sturm.specs.Entries.{firstEntries, blankEntries, entryE}
 use Rattle.sturm.specs.Bounds.{boundsOf, boundsFrom, widen}
 use Rattle.sturm.specs.Pivots.{negativePivots, pivotsAt, nextPivot, divisor}
@@ -27,16 +29,22 @@ use Rattle.expansion.specs.Sdmn as Sdmn
 use Rattle.expansion.specs.Sckb.{regulator, terms, firstFactor, sumOf, factorial, filled, sckb}
 use Rattle.angular.specs.Aswfa.{nm2Of, a0Of, negligible, summed, su1Of, su2Of, derivativeAtOne, derivativeInside, beforeSigns, signAt, aswfa}
 use Rattle.joining.specs.Sums as Joining
-use Rattle.radial.specs.Limits.{firstTerms, secondTerms}
-use Rattle.radial.specs.BesselSums as BesselSums
-use Rattle.radial.specs.Rmn1 as Rmn1
-use Rattle.radial.specs.Rmn2so.{rmn2so}
-use Rattle.radial.specs.Rswfo.{rswfo, firstKind}
+use Rattle.joining.specs.Kmn as Kmn
+use Rattle.joining.specs.Qstar as Qstar
+use Rattle.joining.specs.Cbk as Cbk
+use Rattle.radial_sums.specs.Limits.{firstTerms, secondTerms}
+use Rattle.radial_sums.specs.BesselSums as BesselSums
+use Rattle.radial_sums.specs.Common.{common}
+use Rattle.radial_sums.specs.Rmn1 as Rmn1
+use Rattle.radial_sums.specs.Rmn2l as Rmn2l
+use Rattle.radial.specs.Gmn as Gmn
+use Rattle.radial.specs.Rmn2so.{combined, turned, rmn2so}
+use Rattle.radial.specs.Rswfo.{keptOr, secondKind, withSecond, rswfo, firstKind}
 use Rattle.requests.specs.Refusals.{signOf, entriesOf, outOfRange, noParameter, refusalOf, tooManyTerms, notFinite, radialModeRefusal, tooFar}
 use Rattle.rows.specs.Rows.{tooShort, zeroAt, rowIn, rowOf, blankSlices, lessened, dlmfIn, dlmfOf}
 use Rattle.modes.specs.Angular.{outside, angularRefusal, angularPair, angularOf}
-use Rattle.modes.specs.Radial.{radialRefusal, radialKinds, radialOf}
-use Rattle.modes.specs.FirstKind.{firstRefusal, pairOrRefusal, firstOf}
+use Rattle.modes.specs.Radial.{radialRefusal, quadrupleOrRefusal, radialOf}
+use Rattle.modes.specs.FirstKind.{pairOrRefusal, firstOf}
 
 unfoldable doubles : Bool
 unfolding add sub mul div neg lt le eq ofInt ofBits toBits toUnsigned abs power sqrt
@@ -63,7 +71,7 @@ unfolding angularOf angularRefusal angularPair outside aswfa signAt beforeSigns 
 pairs = true
 
 unfoldable quadruples : Bool
-unfolding radialOf radialRefusal radialKinds rswfo rmn2so Rmn1.onDisc Rmn1.placed Rmn1.r2Of Rmn1.powersOn Joining.sa0Above Joining.sa0Below Joining.parityPower Joining.expansionSum Joining.sumOn Joining.stops Joining.settledBy firstTerms secondTerms
+unfolding radialOf radialRefusal quadrupleOrRefusal rswfo withSecond secondKind rmn2so Rmn1.rmn1 Rmn1.onDisc Rmn1.placed Rmn1.r2Of Rmn1.powersOn Joining.sa0Above Joining.sa0Below Joining.parityPower Joining.expansionPartial Joining.sumOn Joining.stops Joining.settledBy firstTerms secondTerms
 quadruples = true
 
 unfoldable logarithms : Bool
@@ -79,9 +87,13 @@ unfolding Secant.envj Secant.mayTry Secant.secant Secant.searched firstOrder mst
 bessels = true
 
 unfoldable firstKinds : Bool
-unfolding firstOf firstRefusal pairOrRefusal firstKind Rmn1.rmn1 Rmn1.toHalf Rmn1.joined Rmn1.offDisc BesselSums.lg BesselSums.factor BesselSums.besselOn logarithms sines bessels
+unfolding firstOf pairOrRefusal firstKind common Rmn1.rmn1 Rmn1.toHalf Rmn1.joined Rmn1.offDisc BesselSums.lg BesselSums.factor BesselSums.besselOn logarithms sines bessels
 firstKinds = true
 
+unfoldable secondKinds : Bool
+unfolding keptOr Sphy.nearZero Sphy.filled Sphy.lowest Sphy.stepsUp Sphy.recurred Sphy.sy Sphy.dy Sphy.highest Rmn2l.largeOn Rmn2l.lost Rmn2l.rmn2l combined turned Gmn.ends Gmn.slopeTerm Gmn.sumOn Gmn.gmn Kmn.r2Of Kmn.sa0Of Kmn.kmn Qstar.skAt Qstar.sAt Qstar.apUpTo Qstar.productOf Qstar.qs0At Qstar.paritySign Qstar.qstar Cbk.firstIndex Cbk.r1At Cbk.added Cbk.s1From Cbk.rightSides Cbk.rows Cbk.eliminated Cbk.substituted Cbk.cbk
+secondKinds = true
+
 unfoldable pub computed : Bool
-unfolding doubles refusals rows bisected coefficients pairs quadruples firstKinds
+unfolding doubles refusals rows bisected coefficients pairs quadruples firstKinds secondKinds
 computed = true

@@ -1,4 +1,4 @@
--- A c or x that is zero, of either sign: it is not refused, and its square is +0, which leaves a whole number as it is, added or taken away. Assumes nothing.
+-- A c that is zero, of either sign: its square is +0, which leaves a whole number as it is, added or taken away. Assumes nothing.
 use Prim.Native.Nat.{ℕ, _+_, _-_, _*_, _^_, _≤_, _<_}
 use native.Mathlib.Nat.{mul-one, zero-mul, mul-pos}
 use native.Mathlib.Omega.{arith}
@@ -14,22 +14,7 @@ use lib.Ieee.Exact.{HasValue}
 use lib.Ieee.Fits.{down-pos}
 use Rattle.arith.specs.Double.{_⊕_, _⊖_, _⊗_, dbl, #0, #1e-10}
 use Rattle.arith.proofs.Flags.{not-taken, not-left}
-use Rattle.requests.specs.Refusals.{noParameter}
-
--- the size of +0 over any divisor
-nothing : (e : ℤ) → 0 * 1 * down e ≡ 0
-nothing e = ap (λ (z : ℕ). z * down e) (zero-mul 1) ∙ zero-mul (down e)
-
-zero-size : (s : Bool) (m : ℕ) (e : ℤ) → eq (fin s m e) #0 ≡ true → m * up e ≡ 0
-unfolding eq ofBits
-zero-size s m e h = sym (mul-one (m * up e)) ∙ same (m * up e * 1) (0 * 1 * down e) _ h ∙ nothing e
-  where
-    same : (a b : ℕ) (t : Bool) → (eqb a b && t) ≡ true → a ≡ b
-    same a b t h = go (eqb a b) refl h
-      where
-        go : (q : Bool) → eqb a b ≡ q → (q && t) ≡ true → a ≡ b
-        go true p h = eqb-true a b p
-        go false p h = not-taken h
+use Rattle.arith.proofs.Zeros.{nothing, zero-size}
 
 zero-round : (a d : ℕ) → a ≡ 0 → 0 < d → round binary64 false (a * a) d ≡ #0
 unfolding round ofBits
@@ -54,19 +39,6 @@ unfolding lt eq ofBits
 zero-below nan h = not-taken h
 zero-below (inf s) h = not-taken h
 zero-below (fin s m e) h = below-above s (m * up e) _ _ (zero-size s m e h) (mul-pos {m = 0x1b_7cdf_d9d7_bdbb} (omega arith) (down-pos e))
-
-below-nothing : (s : Bool) (a p b : ℕ) → a ≡ 0 → b ≡ 0 → below s (a * p) false b ≡ false
-below-nothing s a p b z h = go s (a * p) (ap (λ (a : ℕ). a * p) z ∙ zero-mul p)
-  where
-    go : (s : Bool) (q : ℕ) → q ≡ 0 → below s q false b ≡ false
-    go false q e = le-ltb q b (omega arith)
-    go true q e = le-ltb 0 (q + b) (omega arith)
-
-pub zero-parameter : (x : Float) → eq x #0 ≡ true → noParameter x ≡ false
-unfolding noParameter lt eq ofBits
-zero-parameter nan h = not-taken h
-zero-parameter (inf s) h = not-taken h
-zero-parameter (fin s m e) h = below-nothing s (m * up e) _ _ (zero-size s m e h) (nothing e)
 
 -- a zero with the sign t, added to a whole number
 plus-zero : (k : ℕ) (t : Bool) → k ≤ 2 ^ 53 → add binary64 (dbl k) (fin t 0 (pos 0)) ≡ dbl k

@@ -1,10 +1,9 @@
--- Card 2, the first kind off the disc: what it has in common with operation 5, as a statement about the definitions of the public functions, and its refusals at the edges, as a table. `proofs/Card2.antt` proves both.
+-- Card 2, the first kind off the disc: what it has in common with operation 5, as a statement about the definitions of the public functions, and the refusals of both at the edges, as a table. `proofs/Card2.antt` proves both.
 use Prim.Native.Nat.{ℕ}
 use mathlib.Core.Path.{_≡_}
-use mathlib.Core.Bool.{true}
 use mathlib.Core.List.{List, [], _∷_}
-use lib.Ieee.{Float, eq}
-use Rattle.arith.specs.Double.{bits, #0}
+use lib.Ieee.{Float}
+use Rattle.arith.specs.Double.{bits}
 use Rattle.requests.specs.declared.answers.Answer.{Answer}
 use Rattle.requests.specs.declared.answers.Answer.the-variants.{Pair, Quadruple, Refused}
 use Rattle.requests.specs.declared.checking.Mode.{Mode}
@@ -17,22 +16,22 @@ firstPair (Quadruple value1 derivative1 value2 derivative2) = Pair value1 deriva
 firstPair (Pair value derivative) = Pair value derivative
 firstPair (Refused k) = Refused k
 
--- at a zero of either sign operation 8 answers what operation 5 answers of the first kind, and is refused where it is, by the same number
-abbrev pub FirstKindOnDisc : Type 0
-FirstKindOnDisc = (mode : Mode) (cv x : Float) → eq x #0 ≡ true → firstOf mode cv x ≡ firstPair (radialOf mode cv x)
+-- at every x operation 8 answers what operation 5 answers of the first kind, and is refused where it is, by the same number
+abbrev pub FirstKindOfBoth : Type 0
+FirstKindOfBoth = (mode : Mode) (cv x : Float) → firstOf mode cv x ≡ firstPair (radialOf mode cv x)
 
 -- a mode, the bits of cv and x, and the first of 4 to 8 and 11 that applies, or 0
-pub record FirstEdge : Type 0 where
+pub record RadialEdge : Type 0 where
   pub mode : Mode
   pub cv : Float
   pub x : Float
   pub refusal : ℕ
 
-abbrev edge : ℕ → ℕ → ℕ → ℕ → ℕ → ℕ → FirstEdge
+abbrev edge : ℕ → ℕ → ℕ → ℕ → ℕ → ℕ → RadialEdge
 edge m n c cv x k = record { mode = record { m = m; n = n; c = bits c }; cv = bits cv; x = bits x; refusal = k }
 
-unfoldable pub firstEdges : List FirstEdge
-firstEdges =
+unfoldable pub radialEdges : List RadialEdge
+radialEdges =
     -- x −0 passes 8; the double below it doesn't, nor do NaN and the infinities; the largest double passes, with c 0
     edge 0 0 0 0 0x8000_0000_0000_0000 0 ∷
     edge 0 0 0 0 0x8000_0000_0000_0001 8 ∷

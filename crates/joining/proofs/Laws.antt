@@ -13,14 +13,18 @@ use lib.Seq.{getD-set-same, getD-set-other}
 use Rattle.arith.specs.Double.{_⊕_, _⊖_, _⊗_, _⊘_, at, #0}
 use Rattle.expansion.specs.Terms.{termsOf}
 use Rattle.expansion.specs.Sums.{settled, blank}
+use Rattle.expansion.specs.declared.sckb.Partial.{Partial}
 use Rattle.joining.specs.declared.sums.Test.{Test}
 use Rattle.joining.specs.Sums.{nextFactor, stops, sumOn}
 use Rattle.joining.specs.Qstar.{sAt, skOf, rOf, apUpTo}
 use Rattle.joining.specs.Cbk.{added, r1At, s1From, rightSides, vAt, wAt, Solved, solved, rows, eliminated, substituted, cbk}
 
 -- ---- a term of the sum over the expansion coefficients
+abbrev pub partial : Float → Float → Partial
+partial sum sw = record { sum = sum; sw = sw }
+
 module _ (test : Test) (df : List Float) (m ip half left k : ℕ) (r r' sum sw : Float) (hr : r' ≡ nextFactor m ip k r) where
-  pub sum-stop : stops test half k (sum ⊕ r' ⊗ at df (k - 1)) sw ≡ true → sum ⊕ r' ⊗ at df (k - 1) ≡ sumOn test df m ip half (suc left) k r sum sw
+  pub sum-stop : stops test half k (sum ⊕ r' ⊗ at df (k - 1)) sw ≡ true → partial (sum ⊕ r' ⊗ at df (k - 1)) sw ≡ sumOn test df m ip half (suc left) k r sum sw
   unfolding sumOn
   sum-stop h = rw hr (sym (rw (rw hr at h, sumOn)))
 

@@ -10,6 +10,7 @@ use Rattle.arith.specs.Powers.{twoTo}
 use Rattle.expansion.specs.Products.{rising}
 use Rattle.expansion.specs.Sums.{settled}
 use Rattle.expansion.specs.Sdmn.{r3Of}
+use Rattle.expansion.specs.declared.sckb.Partial.{Partial}
 use Rattle.joining.specs.declared.sums.Test.{Test}
 use Rattle.joining.specs.declared.sums.Test.the-variants.{Quotient, Product}
 
@@ -28,17 +29,21 @@ nextFactor m ip k r = r ⊗ (dbl (m + k) ⊖ #1) ⊗ (dbl (m + k + ip) ⊖ #1·5
 unfoldable pub stops : Test → ℕ → ℕ → Float → Float → Bool
 stops test half k sum sw = ltb half k && settledBy test sum sw
 
--- `left` more terms from the k-th on
-unfoldable pub sumOn : Test → List Float → ℕ → ℕ → ℕ → ℕ → ℕ → Float → Float → Float → Float
-sumOn test df m ip half zero k r sum sw = sum
+-- `left` more terms from the k-th on. sw is the sum remembered; a sum that has settled is not
+unfoldable pub sumOn : Test → List Float → ℕ → ℕ → ℕ → ℕ → ℕ → Float → Float → Float → Partial
+sumOn test df m ip half zero k r sum sw = record { sum = sum; sw = sw }
 sumOn test df m ip half (suc left) k r sum sw =
     let r' = nextFactor m ip k r in
     let s = sum ⊕ r' ⊗ at df (k - 1) in
-    elim (stops test half k s sw) [ true ↦ s | false ↦ sumOn test df m ip half left (suc k) r' s s ]
+    elim (stops test half k s sw) [ true ↦ record { sum = s; sw = sw } | false ↦ sumOn test df m ip half left (suc k) r' s s ]
 
 -- over nm coefficients; the first one's factor is reg × (2m + ip)!
-unfoldable pub expansionSum : Test → List Float → ℕ → ℕ → ℕ → ℕ → Float → Float
-expansionSum test df m ip half nm reg = let r = rising reg 1 (2 * m + ip) in sumOn test df m ip half (nm - 1) 2 r (r ⊗ at df 0) #0
+unfoldable pub expansionPartial : Test → List Float → ℕ → ℕ → ℕ → ℕ → Float → Partial
+expansionPartial test df m ip half nm reg = let r = rising reg 1 (2 * m + ip) in sumOn test df m ip half (nm - 1) 2 r (r ⊗ at df 0) #0
+
+-- the sum alone; only `rmn2l` takes on the one remembered
+abbrev pub expansionSum : Test → List Float → ℕ → ℕ → ℕ → ℕ → Float → Float
+expansionSum test df m ip half nm reg = expansionPartial test df m ip half nm reg .sum
 
 -- ---- sa0 of `kmn` and of `rmn1`, a quotient
 

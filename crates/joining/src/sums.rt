@@ -2,6 +2,7 @@
 ghost use mathlib.Core.Path.{_≡_};
 ghost use Prim.Native.Nat.{_+_, _<_, _≤_};
 ghost use Rattle.joining.specs.Sums as Sums;
+use expansion::sckb::Partial;
 
 // How a sum over the expansion coefficients is held against the one before.
 pub enum Test {
@@ -41,7 +42,37 @@ pub fn stops(test: Test, half: u32, k: u32, sum: f64, sw: f64) -> bool
     }
 }
 
-// The sum over nm expansion coefficients; reg is the regulator.
+// The sum over nm expansion coefficients, and the sum remembered; reg is the regulator. A sum that has
+// settled is not remembered.
+pub fn expansion_partial(
+    test: Test,
+    df: &[f64; 200],
+    m: u32,
+    ip: u32,
+    half: u32,
+    nm: u32,
+    reg: f64,
+) -> Partial
+    requires { ⌜ (m < 1000) × (ip < 2) × (nm < 200) ⌝ }
+    ensures { λ x. ⌜ x ≡ Sums.expansionPartial test (now (df .entry)) m ip half nm reg ⌝ }
+{
+    let mut r = expansion::products::rise(reg, 1, 2 * m + ip);
+    let mut sum = r * df[0];
+    let mut sw = 0.0;
+    let mut k: u32 = 2;
+    while k <= nm {
+        r = next_factor(m, ip, k, r);
+        sum = sum + r * df[(k - 1) as usize];
+        if stops(test, half, k, sum, sw) {
+            return Partial { sum, sw };
+        }
+        sw = sum;
+        k = k + 1;
+    }
+    Partial { sum, sw }
+}
+
+// The sum alone.
 pub fn expansion_sum(
     test: Test,
     df: &[f64; 200],
@@ -54,20 +85,7 @@ pub fn expansion_sum(
     requires { ⌜ (m < 1000) × (ip < 2) × (nm < 200) ⌝ }
     ensures { λ x. ⌜ x ≡ Sums.expansionSum test (now (df .entry)) m ip half nm reg ⌝ }
 {
-    let mut r = expansion::products::rise(reg, 1, 2 * m + ip);
-    let mut sum = r * df[0];
-    let mut sw = 0.0;
-    let mut k: u32 = 2;
-    while k <= nm {
-        r = next_factor(m, ip, k, r);
-        sum = sum + r * df[(k - 1) as usize];
-        if stops(test, half, k, sum, sw) {
-            return sum;
-        }
-        sw = sum;
-        k = k + 1;
-    }
-    sum
+    expansion_partial(test, df, m, ip, half, nm, reg).sum
 }
 
 // c to the power ip.

@@ -17,19 +17,19 @@ use Rattle.arith.proofs.Flags.{not-left, neither}
 use Rattle.expansion.specs.Terms.{termsOf, Usable}
 use Rattle.expansion.specs.Sdmn.{sdmn}
 use Rattle.segv.specs.Row.{answer}
-use Rattle.radial.specs.declared.rswfo.Radial as Disc
-use Rattle.radial.specs.declared.rmn1.First.{First}
+use Rattle.radial.specs.declared.rswfo.Kinds.{Kinds}
+use Rattle.radial_sums.specs.declared.rmn1.First.{First}
 use Rattle.radial.specs.Rswfo.{rswfo, firstKind}
 use Rattle.angular.specs.declared.aswfa.Pair as Angular
 use Rattle.angular.specs.Aswfa.{aswfa}
 use Rattle.requests.specs.declared.answers.Answer.{Answer}
-use Rattle.requests.specs.declared.answers.Answer.the-variants.{Pair, Quadruple, Refused}
+use Rattle.requests.specs.declared.answers.Answer.the-variants.{Pair, Refused}
 use Rattle.requests.specs.declared.checking.Mode.{Mode}
 use Rattle.requests.specs.declared.checking.Kind.{Kind}
 use Rattle.requests.specs.Refusals.{noParameter, modeRefusal, signOf, notFinite, radialModeRefusal, tooFar}
 use Rattle.requests.proofs.Laws.{usable, none, common-usable}
-use Rattle.modes.specs.Radial.{radialRefusal, radialKinds, radialOf}
-use Rattle.modes.specs.FirstKind.{firstRefusal, pairOrRefusal, firstOf}
+use Rattle.modes.specs.Radial.{radialRefusal, quadrupleOrRefusal, radialOf}
+use Rattle.modes.specs.FirstKind.{pairOrRefusal, firstOf}
 use Rattle.modes.specs.Angular.{outside, angularRefusal, angularPair, angularOf}
 use Rattle.modes.specs.Coefficients.{coefficientsOf}
 
@@ -114,64 +114,36 @@ module _ (kind : Kind) (mode : Mode) (cv x : Float) (k : ℕ) (h : k ≡ angular
   unfolding angularOf angularPair
   pair-given s p z hs hp = rw (← h, z, hp, hs)
 
--- ---- both kinds on the disc
+-- ---- radial functions
 module _ (mode : Mode) (cv x : Float) (k : ℕ) (h : k ≡ radialModeRefusal mode cv) where
   pub radial-early : (k ≡ 0 → ⊥) → k ≡ radialRefusal mode cv x
   unfolding radialRefusal
   radial-early n = rw (← h, ne-eqb k 0 n)
 
-  pub radial-none : k ≡ 0 → eq x #0 ≡ true → 0 ≡ radialRefusal mode cv x
-  unfolding radialRefusal
-  radial-none z o = rw (← h, z, o)
-
-  pub radial-outside : k ≡ 0 → eq x #0 ≡ false → 8 ≡ radialRefusal mode cv x
-  unfolding radialRefusal
-  radial-outside z o = rw (← h, z, o)
-
-pub radial-usable : (mode : Mode) (cv x : Float) → radialRefusal mode cv x ≡ 0 → modeRefusal mode ≡ 0
-unfolding radialRefusal
-radial-usable mode cv x h = common-usable mode cv (none (radialModeRefusal mode cv) _ h)
-
-module _ (mode : Mode) (cv x : Float) (k : ℕ) (h : k ≡ radialRefusal mode cv x) where
-  pub kinds-refused : (k ≡ 0 → ⊥) → Refused k ≡ radialOf mode cv x
-  unfolding radialOf
-  kinds-refused n = rw (← h, ne-eqb k 0 n)
-
-  pub kinds-given : (r : Disc.Radial) → k ≡ 0 → r ≡ rswfo (mode .m) (mode .n) (mode .c) cv
-      → Quadruple (r .first .value) (r .first .derivative) (r .second .value) (r .second .derivative) ≡ radialOf mode cv x
-  unfolding radialOf radialKinds
-  kinds-given r z e = rw (← h, z, e)
-
--- ---- the first kind
-module _ (mode : Mode) (cv x : Float) (k : ℕ) (h : k ≡ radialModeRefusal mode cv) where
-  pub first-early : (k ≡ 0 → ⊥) → k ≡ firstRefusal mode cv x
-  unfolding firstRefusal
-  first-early n = rw (← h, ne-eqb k 0 n)
-
   module _ (z : k ≡ 0) where
-    pub first-outside : noParameter x ≡ true → 8 ≡ firstRefusal mode cv x
-    unfolding firstRefusal
-    first-outside o = rw (← h, z, o)
+    pub radial-outside : noParameter x ≡ true → 8 ≡ radialRefusal mode cv x
+    unfolding radialRefusal
+    radial-outside o = rw (← h, z, o)
 
-    pub first-far : noParameter x ≡ false → tooFar mode x ≡ true → 11 ≡ firstRefusal mode cv x
-    unfolding firstRefusal
-    first-far o f = rw (← h, z, o, f)
+    pub radial-far : noParameter x ≡ false → tooFar mode x ≡ true → 11 ≡ radialRefusal mode cv x
+    unfolding radialRefusal
+    radial-far o f = rw (← h, z, o, f)
 
-    pub first-none : noParameter x ≡ false → tooFar mode x ≡ false → 0 ≡ firstRefusal mode cv x
-    unfolding firstRefusal
-    first-none o f = rw (← h, z, o, f)
+    pub radial-none : noParameter x ≡ false → tooFar mode x ≡ false → 0 ≡ radialRefusal mode cv x
+    unfolding radialRefusal
+    radial-none o f = rw (← h, z, o, f)
 
 -- where nothing is refused the mode is usable, and off the disc its orders are few
-module _ (mode : Mode) (cv x : Float) (h : firstRefusal mode cv x ≡ 0) where
+module _ (mode : Mode) (cv x : Float) (h : radialRefusal mode cv x ≡ 0) where
   common-passes : radialModeRefusal mode cv ≡ 0
-  unfolding firstRefusal
+  unfolding radialRefusal
   common-passes = none (radialModeRefusal mode cv) _ h
 
-  pub first-usable : Usable (mode .m) (mode .n) (mode .c)
-  first-usable = usable mode (common-usable mode cv common-passes)
+  pub radial-usable : Usable (mode .m) (mode .n) (mode .c)
+  radial-usable = usable mode (common-usable mode cv common-passes)
 
   near : tooFar mode x ≡ false
-  unfolding firstRefusal
+  unfolding radialRefusal
   near = go (noParameter x) (tooFar mode x) (rw common-passes at h)
     where
       go : (a b : Bool) → _≡_ {A = ℕ} (cond a 8 (cond b 11 0)) 0 → b ≡ false
@@ -179,11 +151,19 @@ module _ (mode : Mode) (cv x : Float) (h : firstRefusal mode cv x ≡ 0) where
       go false true e = absurd (omega arith)
       go false false e = refl
 
-  pub first-orders : eq x #0 ≡ false → 2 * termsOf (mode .n - mode .m) (mode .c) + mode .m ≤ 251
+  pub radial-orders : eq x #0 ≡ false → 2 * termsOf (mode .n - mode .m) (mode .c) + mode .m ≤ 251
   unfolding tooFar
-  first-orders o = ltb-false 251 _ (neither (ltb 251 (2 * termsOf (mode .n - mode .m) (mode .c) + mode .m)) _ (rw o at near) .0)
+  radial-orders o = ltb-false 251 _ (neither (ltb 251 (2 * termsOf (mode .n - mode .m) (mode .c) + mode .m)) _ (rw o at near) .0)
 
-module _ (mode : Mode) (cv x : Float) (k : ℕ) (h : k ≡ firstRefusal mode cv x) where
+module _ (mode : Mode) (cv x : Float) (k : ℕ) (h : k ≡ radialRefusal mode cv x) where
+  pub kinds-refused : (k ≡ 0 → ⊥) → Refused k ≡ radialOf mode cv x
+  unfolding radialOf
+  kinds-refused n = rw (← h, ne-eqb k 0 n)
+
+  pub kinds-given : (r : Kinds) (a : Answer) → k ≡ 0 → r ≡ rswfo (mode .m) (mode .n) (mode .c) cv x → a ≡ quadrupleOrRefusal r → a ≡ radialOf mode cv x
+  unfolding radialOf
+  kinds-given r a z e p = rw (← h, z, ← e) p
+
   pub first-refused : (k ≡ 0 → ⊥) → Refused k ≡ firstOf mode cv x
   unfolding firstOf
   first-refused n = rw (← h, ne-eqb k 0 n)

@@ -1,26 +1,9 @@
 // The first oblate radial function of a mode, on the disc and off it.
 ghost use mathlib.Core.Path.{_≡_};
 ghost use Rattle.modes.specs.FirstKind as FirstKind;
-use radial::rmn1::First;
+use radial_sums::rmn1::First;
 use requests::Answer;
 use requests::Mode;
-
-// The first of 4 to 8 and 11 that applies, or 0.
-fn first_refusal(mode: Mode, cv: f64, x: f64) -> u8
-    ensures { λ r. ⌜ r ≡ FirstKind.firstRefusal mode cv x ⌝ }
-{
-    let refused = mode.radial_mode_refusal(cv);
-    if refused != 0 {
-        return refused;
-    }
-    if requests::no_parameter(x) {
-        return 8;
-    }
-    if requests::too_far(mode, x) {
-        return 11;
-    }
-    0
-}
 
 // The pair, or refusal 12.
 fn pair_or_refusal(found: First) -> Answer
@@ -37,7 +20,7 @@ fn pair_or_refusal(found: First) -> Answer
 pub fn first_kind(mode: Mode, cv: f64, x: f64) -> Answer
     ensures { λ r. ⌜ r ≡ FirstKind.firstOf mode cv x ⌝ }
 {
-    let refused = first_refusal(mode, cv, x);
+    let refused = super::radial_functions::radial_refusal(mode, cv, x);
     if refused != 0 {
         return Answer::Refused(refused);
     }

@@ -1,5 +1,3 @@
-pub mod Limits
-pub mod BesselSums
-pub mod Rmn1
+pub mod Gmn
 pub mod Rmn2so
 pub mod Rswfo

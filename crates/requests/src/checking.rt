@@ -58,7 +58,7 @@ impl Mode {
     pub const LIMIT: f64 = 175.0;
     // What document 01's N and m do not exceed together, for a radial function.
     pub const PLACES: u32 = 200;
-    // What 2N + m does not exceed for the first kind off the disc, and what c * x does not.
+    // What 2N + m does not exceed for a radial function off the disc, and what c * x does not.
     pub const ORDERS: u32 = 251;
 
     pub const ARGUMENT: f64 = 200.0;

@@ -252,7 +252,8 @@ pub extern "C" fn spheroidal_oblate_angular(
     angular(Kind::Oblate, Mode { m, n, c }, cv, x, value, derivative)
 }
 
-// Both oblate radial functions of a mode with the characteristic value cv on the disc, where x is zero.
+// Both oblate radial functions of a mode with the characteristic value cv, with their derivatives, at a finite x not below
+// zero.
 #[no_mangle]
 pub extern "C" fn spheroidal_oblate_radial(
     m: u16,

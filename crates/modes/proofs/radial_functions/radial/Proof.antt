@@ -1,7 +1,6 @@
 -- `modes::radial_functions::radial` meets its contract. Assumes nothing.
 use borrow.Author.Needs.{needs}
 use mathlib.Core.Path.{sym, _∙_}
-use Rattle.requests.proofs.Laws.{usable}
 use Rattle.modes.proofs.Laws as laws
 use Rattle.modes.proofs.radial_functions.radial.Statement.{statement}
 use Rattle.modes.proofs.radial_functions.radial.Tie as tie
@@ -19,12 +18,22 @@ cast-rswfo-2 : tie.Need-cast-rswfo-2
 cast-rswfo-2 c = search needs
 
 rswfo-requires : tie.Need-rswfo-requires
-rswfo-requires c κs = usable (c .before .before .before .before .args .mode) (laws.radial-usable (c .before .before .before .before .args .mode) (c .before .before .before .before .args .cv) (c .before .before .before .before .args .x) (sym (c .before .before .before .radial-refusal .ensures) ∙ c .before .before .if1 .left))
+rswfo-requires c κs = let s = c .before .before .before .before in let z = sym (c .before .before .before .radial-refusal .ensures) ∙ c .before .before .if1 .left in (laws.radial-usable (s .args .mode) (s .args .cv) (s .args .x) z, laws.radial-orders (s .args .mode) (s .args .cv) (s .args .x) z)
+
+quadruple-or-refusal-requires : tie.Need-quadruple-or-refusal-requires
+quadruple-or-refusal-requires c κs = search needs
 
 returns-2 : tie.Need-returns-2
-returns-2 c = laws.kinds-given _ _ _ _ (c .before .before .before .before .radial-refusal .ensures) (c .rswfo .result) (c .before .before .before .if1 .left) (c .rswfo .ensures)
+returns-2 c = laws.kinds-given _ _ _ _ (c .before .before .before .before .before .radial-refusal .ensures) _ _ (c .before .before .before .before .if1 .left) (c .before .rswfo .ensures) (c .quadruple-or-refusal .ensures)
 
 pub radial-spec : {M : Type 1} → statement M
 radial-spec =
     tie.close
-    (tie.spec radial-refusal-requires returns cast-rswfo cast-rswfo-2 rswfo-requires returns-2)
+    (tie.spec
+    radial-refusal-requires
+    returns
+    cast-rswfo
+    cast-rswfo-2
+    rswfo-requires
+    quadruple-or-refusal-requires
+    returns-2)

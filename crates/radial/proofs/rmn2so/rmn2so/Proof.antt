@@ -1,6 +1,6 @@
 -- `radial::rmn2so::rmn2so` meets its contract. Assumes nothing.
 use borrow.Author.Needs.{needs}
-use Rattle.radial.proofs.Laws.{second-large, second-combined}
+use Rattle.radial.proofs.Laws.{second-large, second-on-disc, second-off-disc}
 use Rattle.radial.proofs.rmn2so.rmn2so.Statement.{statement}
 use Rattle.radial.proofs.rmn2so.rmn2so.Tie as tie
 
@@ -11,7 +11,7 @@ abs-requires : tie.Need-abs-requires
 abs-requires c κs = search needs
 
 returns : tie.Need-returns
-returns c = second-large _ _ _ _ _ _ _ (c .before .abs .ensures) (c .if1 .taken)
+returns c = second-large _ _ _ _ _ _ _ _ _ (c .before .abs .ensures) (c .if1 .taken)
 
 kmn-requires : tie.Need-kmn-requires
 kmn-requires c κs = search needs
@@ -41,7 +41,16 @@ combined-requires : tie.Need-combined-requires
 combined-requires c κs = search needs
 
 returns-2 : tie.Need-returns-2
-returns-2 c = second-combined _ _ _ _ _ _ _ (c .before .before .before .before .before .before .before .abs .ensures) (c .before .before .before .before .before .before .if1 .left) _ (c .before .before .before .before .qstar .result) (c .before .before .before .cbk .result) _ _ _ (c .before .before .before .before .before .kmn .ensures) (c .before .before .before .before .qstar .ensures) (c .before .before .before .cbk .ensures) (c .before .before .second-terms .ensures .0) (c .before .powers-sum .ensures) (c .combined .ensures)
+returns-2 c = second-on-disc _ _ _ _ _ _ _ _ _ (c .before .before .before .before .before .before .before .before .abs .ensures) (c .before .before .before .before .before .before .before .if1 .left) _ (c .before .before .before .before .before .qstar .result) (c .before .before .before .before .cbk .result) (c .before .before .before .before .before .before .kmn .ensures) (c .before .before .before .before .before .qstar .ensures) (c .before .before .before .before .cbk .ensures) (c .before .before .before .if2 .taken) _ _ _ (c .before .before .second-terms .ensures .0) (c .before .powers-sum .ensures) (c .combined .ensures)
+
+gmn-requires : tie.Need-gmn-requires
+gmn-requires c κs = search needs
+
+turned-requires : tie.Need-turned-requires
+turned-requires c κs = search needs
+
+returns-3 : tie.Need-returns-3
+returns-3 c = second-off-disc _ _ _ _ _ _ _ _ _ (c .before .before .before .before .before .before .before .before .abs .ensures) (c .before .before .before .before .before .before .before .if1 .left) _ (c .before .before .before .before .before .qstar .result) (c .before .before .before .before .cbk .result) (c .before .before .before .before .before .before .kmn .ensures) (c .before .before .before .before .before .qstar .ensures) (c .before .before .before .before .cbk .ensures) (c .before .before .before .if2 .left) _ _ (c .before .gmn .ensures) (c .turned .ensures)
 
 pub rmn2so-spec : {M : Type 1} → statement M
 rmn2so-spec =
@@ -59,4 +68,7 @@ rmn2so-spec =
     sub-combined
     array-read-combined
     combined-requires
-    returns-2)
+    returns-2
+    gmn-requires
+    turned-requires
+    returns-3)
