@@ -1,6 +1,6 @@
 //! The oracle's own checks, which need no program of ours.
 
-use oracle::answer::{Build, aswfa, first_kind, msta1, msta2, record_lines, stream_lines};
+use oracle::answer::{Build, aswfa, both_kinds, msta1, msta2, record_lines, stream_lines};
 use oracle::orders::Search;
 use oracle::reading::{highest_order, order_search, refusal};
 use oracle::record::{Record, Request, hex, same};
@@ -24,7 +24,7 @@ impl OwnChecks {
             known: Tally::new("known answers of traps.txt"),
             rows: Tally::new("rows: reading and segv agree"),
             builds: Tally::new("both builds agree at x = 0, -0, 1, -1"),
-            disc: Tally::new("first kind: they agree at x = 0, -0"),
+            disc: Tally::new("radial: they agree at x = 0, -0"),
             orders: Tally::new("orders: reading, msta1, msta2 agree"),
         }
     }
@@ -76,7 +76,7 @@ impl OwnChecks {
         }
         match Request::of_operation(record.operation) {
             Some(Request::Angular(_)) => self.check_builds(record),
-            Some(Request::FirstKind) => {
+            Some(Request::Radial | Request::FirstKind) => {
                 self.check_disc(record);
                 self.check_orders(record);
             }
@@ -116,11 +116,11 @@ impl OwnChecks {
     fn check_disc(&mut self, record: &Record) {
         for x in [0.0, -0.0] {
             let record = Record { x, ..*record };
-            let ruled = first_kind(Build::PowerRule, &record);
-            let unaltered = first_kind(Build::Unaltered, &record);
-            let agree = (0..2).all(|at| same(ruled[at], unaltered[at]));
+            let ruled = both_kinds(Build::PowerRule, &record);
+            let unaltered = both_kinds(Build::Unaltered, &record);
+            let agree = (0..4).all(|at| same(ruled[at], unaltered[at]));
             self.disc.count(agree, || {
-                let [ruled, unaltered] = [ruled, unaltered].map(|pair| pair.map(hex).join(" "));
+                let [ruled, unaltered] = [ruled, unaltered].map(|kinds| kinds.map(hex).join(" "));
                 format!("{record}\n    power rule: {ruled}\n    unaltered:  {unaltered}")
             });
         }

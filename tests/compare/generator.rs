@@ -13,10 +13,10 @@ const OPERATIONS: [(u64, u8); 8] = [
     (11, 2),
     (20, 3),
     (20, 4),
-    (12, 5),
+    (18, 5),
     (5, 6),
     (5, 7),
-    (16, 8),
+    (10, 8),
 ];
 
 /// How large a mode is: this bounds the cost of a record.
@@ -90,7 +90,7 @@ const VALUES: [(u64, Value); 9] = [
     (5, Value::AnyFinite),
 ];
 
-/// An x of operation 8.
+/// An x of operations 5 and 8.
 #[derive(Clone, Copy)]
 enum OffDisc {
     Zero,
@@ -100,7 +100,11 @@ enum OffDisc {
     Tiny,
     /// c x beside 1e-100, below which no Bessel order is searched for.
     LeastSearched,
+    /// c x beside 1e-60, below which `sphy` recurs no longer.
+    LeastSecond,
     SmallProduct,
+    /// x beside 1e-8, up to which the second kind is by `rmn2so`.
+    BesideSmall,
     Small,
     AroundOne,
     Whole,
@@ -111,14 +115,16 @@ enum OffDisc {
     Large,
 }
 
-const OFF_DISC: [(u64, OffDisc); 12] = [
-    (8, OffDisc::Zero),
-    (3, OffDisc::Subnormal),
+const OFF_DISC: [(u64, OffDisc); 14] = [
+    (7, OffDisc::Zero),
+    (2, OffDisc::Subnormal),
     (2, OffDisc::VeryTiny),
-    (8, OffDisc::Tiny),
-    (4, OffDisc::LeastSearched),
-    (9, OffDisc::SmallProduct),
-    (10, OffDisc::Small),
+    (6, OffDisc::Tiny),
+    (3, OffDisc::LeastSearched),
+    (3, OffDisc::LeastSecond),
+    (8, OffDisc::SmallProduct),
+    (4, OffDisc::BesideSmall),
+    (9, OffDisc::Small),
     (27, OffDisc::AroundOne),
     (6, OffDisc::Whole),
     (13, OffDisc::Product),
@@ -182,6 +188,11 @@ const SMALL_C: Mix = Mix {
     spoiled_percent: 0,
 };
 
+const RADIAL: Mix = Mix {
+    operations: &[(1, 5)],
+    ..ALL
+};
+
 const FIRST_KIND: Mix = Mix {
     operations: &[(1, 8)],
     ..ALL
@@ -207,6 +218,10 @@ impl Generator {
 
     pub fn with_small_c(seed: u64) -> Generator {
         Generator::of_mix(seed, SMALL_C)
+    }
+
+    pub fn of_radial(seed: u64) -> Generator {
+        Generator::of_mix(seed, RADIAL)
     }
 
     pub fn of_first_kind(seed: u64) -> Generator {
@@ -249,8 +264,7 @@ impl Generator {
 
     fn sound_record_of(&mut self, operation: u8, size: Size) -> Record {
         let request = Request::of_operation(operation).expect("an operation from 1 to 8");
-        let first_kind = request == Request::FirstKind;
-        let off_disc = first_kind.then(|| self.random.weighted(&OFF_DISC));
+        let off_disc = request.is_radial().then(|| self.random.weighted(&OFF_DISC));
         let mut record = Record {
             operation,
             m: 0,
@@ -353,8 +367,8 @@ impl Generator {
         let random = &mut self.random;
         match request {
             Request::Row(_) | Request::DlmfRow(_) => random.any_double(),
-            // That of operation 8 is chosen with its c.
-            Request::Radial | Request::FirstKind => random.pick(&[0.0, -0.0]),
+            // It is chosen with its c.
+            Request::Radial | Request::FirstKind => 0.0,
             Request::Angular(_) => match random.below(100) {
                 0..20 => random.pick(&[0.0, -0.0, 1.0, -1.0]),
                 20..27 => random.sign() * beside(1.0, -(random.between(1, 40) as i64)),
@@ -399,7 +413,7 @@ impl Generator {
                 }
             }
             Spoiling::Value => record.cv = random.pick(&[f64::NAN, f64::INFINITY, -f64::INFINITY]),
-            Spoiling::Argument if request == Some(Request::FirstKind) => {
+            Spoiling::Argument if request.is_some_and(Request::is_radial) => {
                 record.x = faulty_off_disc(random, record.c)
             }
             Spoiling::Argument => record.x = faulty_argument(random),
@@ -419,10 +433,10 @@ fn limiting_parameter(record: &Record, request: Request) -> f64 {
         f64::from(record.n.saturating_sub(record.m)),
     );
     let mut limit = limit(request);
-    if matches!(request, Request::Radial | Request::FirstKind) {
+    if request.is_radial() {
         limit = limit.min(176.0 - m);
     }
-    if request == Request::FirstKind && record.x != 0.0 {
+    if request.is_radial() && record.x != 0.0 {
         // 2N + m is 252 or 253 from there on.
         limit = limit.min(((203.0 - m) / 2.0).floor());
     }
@@ -432,7 +446,10 @@ fn limiting_parameter(record: &Record, request: Request) -> f64 {
 /// The greatest argument of Bessel functions.
 const GREATEST_PRODUCT: f64 = 200.0;
 
-/// An x of operation 8, finite and not below zero; c x may be above its limit by rounding.
+/// Up to this x the second kind is by `rmn2so`.
+const LARGEST_SMALL: f64 = 1e-8;
+
+/// An x of operations 5 and 8, finite and not below zero; c x may be above its limit by rounding.
 fn off_disc_argument(random: &mut Random, argument: OffDisc, c: f64) -> f64 {
     let over_c = |product: f64| (product / if c > 0.0 { c } else { 1.0 }).min(1e300);
     match argument {
@@ -452,7 +469,17 @@ fn off_disc_argument(random: &mut Random, argument: OffDisc, c: f64) -> f64 {
             1 => beside(over_c(1e-100), random.pick(&[-2, -1, 1, 2])),
             _ => over_c(random.log_uniform(1e-102, 1e-98)),
         },
+        OffDisc::LeastSecond => match random.below(3) {
+            0 => over_c(1e-60),
+            1 => beside(over_c(1e-60), random.pick(&[-2, -1, 1, 2])),
+            _ => over_c(random.log_uniform(1e-62, 1e-58)),
+        },
         OffDisc::SmallProduct => over_c(random.log_uniform(1e-100, 1e-2)),
+        OffDisc::BesideSmall => match random.below(3) {
+            0 => LARGEST_SMALL,
+            1 => beside(LARGEST_SMALL, random.pick(&[-2, -1, 1, 2])),
+            _ => random.log_uniform(1e-9, 1e-7),
+        },
         OffDisc::Small => random.log_uniform(1e-8, 1e-1),
         OffDisc::AroundOne => random.log_uniform(1e-1, 1e1),
         OffDisc::Whole => random.pick(&[0.25, 0.5, 1.0, 1.5, 2.0, 3.0, 4.0, 10.0]),
@@ -461,6 +488,7 @@ fn off_disc_argument(random: &mut Random, argument: OffDisc, c: f64) -> f64 {
             over_c(GREATEST_PRODUCT),
             random.pick(&[-3, -2, -1, 0, 0, 1]),
         ),
+        OffDisc::Large if c == 0.0 => random.log_uniform(1.0, 1e300),
         OffDisc::Large => random.log_uniform(over_c(1.0), over_c(GREATEST_PRODUCT)),
     }
 }
@@ -512,7 +540,9 @@ fn faulty_parameter(random: &mut Random) -> f64 {
 fn excessive_parameter(random: &mut Random, record: &Record, request: Request) -> f64 {
     let c = match request {
         // The limit of refusal 6 alone.
-        Request::FirstKind if random.chance(40) => limiting_parameter(record, Request::Radial),
+        _ if request.is_radial() && random.chance(40) => {
+            limiting_parameter(&Record { x: 0.0, ..*record }, request)
+        }
         _ => limiting_parameter(record, request),
     };
     match random.below(8) {
@@ -534,7 +564,7 @@ fn faulty_argument(random: &mut Random) -> f64 {
     random.sign() * size
 }
 
-/// For operation 8, with c x beside its limit and beyond it among them.
+/// For operations 5 and 8, with c x beside its limit and beyond it among them.
 fn faulty_off_disc(random: &mut Random, c: f64) -> f64 {
     let limit = GREATEST_PRODUCT / c;
     match random.below(8) {

@@ -13,7 +13,7 @@ mod tally;
 use std::io::Write;
 use std::process::ExitCode;
 
-use oracle::answer::{Build, record_lines, stream_lines};
+use oracle::answer::{Build, Route, record_lines, route, stream_lines};
 use oracle::record::Record;
 
 use checks::OwnChecks;
@@ -24,7 +24,7 @@ use landed::{CLASSES, DAMAGED_STREAMS, any_landed, class_of, has_landed, landed_
 use program::Program;
 use tally::Tally;
 
-const USAGE: &str = "usage: compare [--records] [N] [SEED] [rows | small-c | first-kind] | \
+const USAGE: &str = "usage: compare [--records] [N] [SEED] [rows | small-c | radial | first-kind] | \
     compare --replay [N] [SEED]";
 const KNOWN_RECORDS: &str = "tests/oracle/traps.txt";
 /// Where the gate finds what it replays: one long stream, and many short ones.
@@ -56,6 +56,8 @@ enum Fresh {
     Rows,
     /// Rows with small c alone.
     SmallC,
+    /// Operation 5 alone.
+    Radial,
     /// Operation 8 alone.
     FirstKind,
 }
@@ -93,6 +95,7 @@ fn arguments() -> Result<Arguments, String> {
     let fresh = match words.last().map(String::as_str) {
         Some("rows") => Fresh::Rows,
         Some("small-c") => Fresh::SmallC,
+        Some("radial") => Fresh::Radial,
         Some("first-kind") => Fresh::FirstKind,
         _ => Fresh::All,
     };
@@ -119,6 +122,7 @@ fn run(arguments: Arguments) -> Result<ExitCode, String> {
         Fresh::All => Generator::new(arguments.seed),
         Fresh::Rows => Generator::of_rows(arguments.seed),
         Fresh::SmallC => Generator::with_small_c(arguments.seed),
+        Fresh::Radial => Generator::of_radial(arguments.seed),
         Fresh::FirstKind => Generator::of_first_kind(arguments.seed),
     };
     if arguments.task == Task::Records {
@@ -224,27 +228,86 @@ struct Figures {
     z_lines: usize,
     /// `Z` lines with 1: too few of them would test nothing.
     substituted: usize,
-    g_lines: usize,
-    /// `G` lines whose value or derivative is a NaN, an infinity or zero.
+    radial: RadialFigures,
+    first_kind: RadialFigures,
+    /// Records of operation 5 off the disc by their route to the second kind.
+    large: usize,
+    small: usize,
+    order: usize,
+    digits: usize,
+    /// How many records have each refusal.
+    refused: [usize; 13],
+}
+
+/// What radial records came to.
+#[derive(Default)]
+struct RadialFigures {
+    lines: usize,
+    /// Lines in which a number is a NaN, an infinity or zero.
     special: usize,
-    refused_11: usize,
-    refused_12: usize,
+}
+
+impl RadialFigures {
+    fn add(&mut self, letter: char, lines: &str) {
+        for line in lines.lines().filter(|line| line.starts_with(letter)) {
+            self.lines += 1;
+            self.special += usize::from(line.split(' ').skip(4).any(is_special));
+        }
+    }
 }
 
 impl Figures {
-    fn add(&mut self, lines: &str) {
-        self.accepted += usize::from(!lines.starts_with('R'));
+    fn add(&mut self, record: &Record, lines: &str) {
+        match refusal_of(lines) {
+            Some(number) => self.refused[number] += 1,
+            None => self.accepted += 1,
+        }
         for line in lines.lines().filter(|line| line.starts_with('Z')) {
             self.z_lines += 1;
             self.substituted += usize::from(line.ends_with(" 1"));
         }
-        for line in lines.lines().filter(|line| line.starts_with('G')) {
-            self.g_lines += 1;
-            self.special += usize::from(line.split(' ').skip(4).any(is_special));
+        self.radial.add('F', lines);
+        self.first_kind.add('G', lines);
+        if lines.starts_with('F') && record.x > 0.0 {
+            let count = match route(Build::PowerRule, record) {
+                Route::Large => &mut self.large,
+                Route::Small => &mut self.small,
+                Route::Order => &mut self.order,
+                Route::Digits => &mut self.digits,
+            };
+            *count += 1;
         }
-        self.refused_11 += usize::from(lines.starts_with('R') && lines.ends_with(" 11\n"));
-        self.refused_12 += usize::from(lines.starts_with('R') && lines.ends_with(" 12\n"));
     }
+
+    fn print(&self) {
+        println!(
+            "{} Z lines, {} of them with 1",
+            self.z_lines, self.substituted
+        );
+        for (letter, figures) in [('F', &self.radial), ('G', &self.first_kind)] {
+            println!(
+                "{} {letter} lines, {} of them with a NaN, an infinity or zero",
+                figures.lines, figures.special
+            );
+        }
+        println!(
+            "second kinds off the disc: {} by rmn2l; by rmn2so {} of small x, {} without an order of \
+             sphy, {} without digits",
+            self.large, self.small, self.order, self.digits
+        );
+        let refused = (1..).zip(&self.refused[1..]);
+        let refused = refused.filter(|&(number, &count)| count > 0 || number > 10);
+        let refused: Vec<String> = refused
+            .map(|(number, count)| format!("{number}: {count}"))
+            .collect();
+        println!("refused, by number: {}", refused.join(", "));
+    }
+}
+
+/// The refusal's number where the lines are one.
+fn refusal_of(lines: &str) -> Option<usize> {
+    let refusal = lines.strip_prefix('R')?;
+    refusal.split_whitespace().next_back()?.parse().ok()
 }
 
 /// A NaN, an infinity or zero, as it is printed.
@@ -287,7 +350,7 @@ impl Run {
         for record in records {
             let lines = record_lines(Build::PowerRule, sent.len(), record);
             self.own.check_record(record, &lines);
-            figures.add(&lines);
+            figures.add(record, &lines);
             if has_landed(class_of(record.operation)) {
                 sent.push(*record);
                 expected.push(lines);
@@ -304,20 +367,14 @@ impl Run {
             Fresh::All => "fresh records",
             Fresh::Rows => "fresh records of operations 1, 2, 6 and 7",
             Fresh::SmallC => "fresh rows with small c",
+            Fresh::Radial => "fresh records of operation 5",
             Fresh::FirstKind => "fresh records of operation 8",
         };
         println!(
             "{records} {what} of seed {seed}, {} of them accepted",
             fresh.accepted
         );
-        println!(
-            "{} Z lines, {} of them with 1",
-            fresh.z_lines, fresh.substituted
-        );
-        println!(
-            "{} G lines, {} of them with a NaN, an infinity or zero; {} refused 11, {} refused 12",
-            fresh.g_lines, fresh.special, fresh.refused_11, fresh.refused_12
-        );
+        fresh.print();
         println!("The oracle's own checks");
         self.own.tallies().iter().for_each(|tally| tally.print());
         self.report_comparison();

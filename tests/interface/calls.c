@@ -386,6 +386,22 @@ static void check_limits(void) {
           name, 18, "a larger Bessel argument");
     check(spheroidal_oblate_first_kind(0, 0, 1.0, 0.0, -0.5, &a, &b) == SPHEROIDAL_REFUSED_ARGUMENT,
           name, 19, "x below zero");
+    check(spheroidal_oblate_radial(1, 1, bessel, 0.0, 1.0, &a, &b, &c, &d) == SPHEROIDAL_OK, name, 20,
+          "largest Bessel order, both kinds");
+    check(spheroidal_oblate_radial(1, 1, bessel + 1, 0.0, 1.0, &a, &b, &c, &d) ==
+              SPHEROIDAL_REFUSED_OFF_THE_DISC,
+          name, 21, "a higher Bessel order, both kinds");
+    check(spheroidal_oblate_radial(1, 1, bessel + 1, 0.0, 0.0, &a, &b, &c, &d) == SPHEROIDAL_OK, name,
+          22, "the same on the disc");
+    check(spheroidal_oblate_radial(0, 0, 1.0, 0.0, SPHEROIDAL_BESSEL_ARGUMENT, &a, &b, &c, &d) ==
+              SPHEROIDAL_OK,
+          name, 23, "largest Bessel argument, both kinds");
+    check(spheroidal_oblate_radial(0, 0, 1.0, 0.0, SPHEROIDAL_BESSEL_ARGUMENT + 0.5, &a, &b, &c, &d) ==
+              SPHEROIDAL_REFUSED_OFF_THE_DISC,
+          name, 24, "a larger Bessel argument, both kinds");
+    check(spheroidal_oblate_radial(0, 0, 1.0, 0.0, -0.5, &a, &b, &c, &d) ==
+              SPHEROIDAL_REFUSED_ARGUMENT,
+          name, 25, "x below zero, both kinds");
 }
 
 /* The version's string and its numbers, and a sentence for each number, its own for each answer. */

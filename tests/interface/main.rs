@@ -333,6 +333,7 @@ impl Tallies {
     fn check_errors(&mut self) {
         let mode = |m, n, c| Mode { m, n, c };
         let angular = |mode, cv, x| spheroidal::angular(Kind::Oblate, mode, cv, x).err();
+        let radial = |mode, cv, x| spheroidal::radial(mode, cv, x).err();
         let first = |mode, cv, x| spheroidal::first_kind(mode, cv, x).err();
         let refusals = [
             (
@@ -365,6 +366,12 @@ impl Tallies {
                 spheroidal::row(Kind::Oblate, mode(0, 0, 1.0), 0).err(),
                 Refusal::Allowance,
                 10,
+            ),
+            (radial(mode(0, 0, 1.0), 0.0, -1.0), Refusal::Argument, 8),
+            (
+                radial(mode(0, 0, 1.0), 0.0, 2.0 * spheroidal::BESSEL_ARGUMENT),
+                Refusal::OffTheDisc,
+                11,
             ),
             (first(mode(0, 0, 1.0), 0.0, -1.0), Refusal::Argument, 8),
             (

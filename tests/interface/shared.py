@@ -1,5 +1,5 @@
 #!/usr/bin/env python3
-"""Loads the shared library and holds rows, first kinds and refusals of it against the record program.
+"""Loads the shared library and holds rows, radial functions and refusals of it against the record program.
 
 Usage: tests/interface/shared.py LIBRARY PROGRAM. Status 1: something differs.
 """
@@ -11,8 +11,11 @@ import sys
 ALLOWANCE = 65535
 # The operation, its function, m, n and c; the second row meets a zero pivot.
 ROWS = [(2, "spheroidal_oblate_row", 0, 4, 2.5), (1, "spheroidal_prolate_row", 0, 2, 1e-5)]
-# m, n, c, cv and x of the first kind, off the disc and on it; the last two are refused.
-FIRST_KINDS = [(0, 4, 2.5, 16.9, 1.5), (3, 3, 1.0, 12.0, -0.0), (1, 1, 1.0, 2.0, 201.0), (1, 1, 1.0, 2.0, -1.0)]
+# The operation, its line's letter, its function and how many doubles it gives.
+RADIAL = [(5, "F", "spheroidal_oblate_radial", 4), (8, "G", "spheroidal_oblate_first_kind", 2)]
+# m, n, c, cv and x, off the disc and on it; the last two are refused.
+ARGUMENTS = [(0, 4, 2.5, 16.9, 1.5), (0, 4, 2.5, 16.9, 0.25), (3, 3, 1.0, 12.0, -0.0)]
+ARGUMENTS += [(1, 1, 1.0, 2.0, 201.0), (1, 1, 1.0, 2.0, -1.0)]
 BUFFERS = (ctypes.c_double, ctypes.c_uint16, ctypes.c_double, ctypes.c_double, ctypes.c_uint8)
 
 
@@ -47,17 +50,17 @@ def same(library, program, operation, name, m, n, c):
     return answered and short == 9 and not any(map(any, untouched))
 
 
-def same_first_kind(library, program, m, n, c, cv, x):
-    function, pair = library.spheroidal_oblate_first_kind, [ctypes.c_double(), ctypes.c_double()]
-    function.argtypes = [ctypes.c_uint16] * 2 + [ctypes.c_double] * 3 + [ctypes.POINTER(ctypes.c_double)] * 2
+def same_radial(library, program, operation, letter, name, count, m, n, c, cv, x):
+    function, places = getattr(library, name), [ctypes.c_double() for _ in range(count)]
+    function.argtypes = [ctypes.c_uint16] * 2 + [ctypes.c_double] * 3 + [ctypes.POINTER(ctypes.c_double)] * count
     function.restype = ctypes.c_uint8
-    number = function(m, n, c, cv, x, *map(ctypes.byref, pair))
-    words = " ".join(struct.pack(">d", place.value).hex() for place in pair)
-    line = f"R 0 {number}\n" if number else f"G 0 {m} {n} {words}\n"
-    return line == printed_by(program, 8, m, n, c, cv, x)
+    number = function(m, n, c, cv, x, *map(ctypes.byref, places))
+    words = " ".join(struct.pack(">d", place.value).hex() for place in places)
+    line = f"R 0 {number}\n" if number else f"{letter} 0 {m} {n} {words}\n"
+    return line == printed_by(program, operation, m, n, c, cv, x)
 
 
 library, program = ctypes.CDLL(sys.argv[1]), sys.argv[2]
 right = [same(library, program, *row) for row in ROWS]
-right += [same_first_kind(library, program, *call) for call in FIRST_KINDS]
+right += [same_radial(library, program, *radial, *call) for radial in RADIAL for call in ARGUMENTS]
 sys.exit(0 if all(right) else 1)

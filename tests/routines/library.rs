@@ -40,4 +40,6 @@ unsafe extern "C" {
     pub safe fn routines_msta1(x: f64, mp: u32) -> u32;
     pub safe fn routines_msta2(x: f64, n: u32, mp: u32) -> u32;
     pub safe fn routines_sphj(x: f64, n: u32, sj: &mut BesselPlaces, dj: &mut BesselPlaces) -> u32;
+    /// The highest order computed.
+    pub safe fn routines_sphy(x: f64, n: u32, sy: &mut BesselPlaces, dy: &mut BesselPlaces) -> u32;
 }

@@ -20,8 +20,8 @@ use std::process::ExitCode;
 use generator::Generator;
 use known::Input;
 use library::{
-    Places, routines_aswfa, routines_cbk, routines_kmn, routines_msta1, routines_msta2,
-    routines_qstar, routines_sckb, routines_sdmn, routines_sphj,
+    BesselPlaces, Places, routines_aswfa, routines_cbk, routines_kmn, routines_msta1, routines_msta2,
+    routines_qstar, routines_sckb, routines_sdmn, routines_sphj, routines_sphy,
 };
 use oracle::answer::{self, Build};
 use oracle::orders;
@@ -53,6 +53,7 @@ struct Tallies {
     msta1: Tally,
     msta2: Tally,
     sphj: Tally,
+    sphy: Tally,
     coefficients: Tally,
 }
 
@@ -77,6 +78,7 @@ fn main() -> ExitCode {
         msta1: Tally::new("msta1"),
         msta2: Tally::new("msta2"),
         sphj: Tally::new("sphj"),
+        sphy: Tally::new("sphy"),
         coefficients: Tally::new("coefficients, refusals included"),
     };
     let Ok(known) = known_records() else {
@@ -142,27 +144,29 @@ impl Tallies {
         if coefficient_refusal(record, Request::Radial).is_none() {
             self.compare_disc(record, &df, &ck);
         }
-        if record.operation == 8 && record.x > 0.0 && refusal(record).is_none() {
+        let radial = Request::of_operation(record.operation).is_some_and(Request::is_radial);
+        if radial && record.x > 0.0 && refusal(record).is_none() {
             self.compare_off_disc(record);
         }
     }
 
-    /// The Bessel functions of an accepted record of operation 8, up to the order that `rmn1` asks for
-    /// and to others.
+    /// The Bessel functions of an accepted record of operation 5 or 8, up to the order that `rmn1` and
+    /// `rmn2l` ask for and to others.
     fn compare_off_disc(&mut self, record: &Record) {
         let Record { m, n, c, x, .. } = *record;
         let highest = highest_order(m, n, c);
         for order in [highest, 2, 251] {
+            let (mut sy, mut dy) = ([0.0; 252], [0.0; 252]);
+            let ours = routines_sphy(c * x, order as u32, &mut sy, &mut dy);
+            let theirs = answer::sphy(Build::PowerRule, c * x, order);
+            compare_bessel(&mut self.sphy, record, (ours, sy, dy), theirs);
             if c * x >= 1e-100 && orders::search(c * x, order).is_err() {
                 continue;
             }
             let (mut sj, mut dj) = ([0.0; 252], [0.0; 252]);
             let ours = routines_sphj(c * x, order as u32, &mut sj, &mut dj);
-            let (theirs, rust_sj, rust_dj) = answer::sphj(Build::PowerRule, c * x, order);
-            let (ours, theirs) = (f64::from(ours), f64::from(theirs));
-            let ours = [&[ours], &sj[..], &dj[..]].concat();
-            let theirs = [&[theirs], &rust_sj[..], &rust_dj[..]].concat();
-            compare(&mut self.sphj, record, &ours, &theirs);
+            let theirs = answer::sphj(Build::PowerRule, c * x, order);
+            compare_bessel(&mut self.sphj, record, (ours, sj, dj), theirs);
         }
     }
 
@@ -246,6 +250,7 @@ impl Tallies {
             &self.msta1,
             &self.msta2,
             &self.sphj,
+            &self.sphy,
             &self.coefficients,
         ];
         for tally in all {
@@ -268,6 +273,19 @@ fn compare(tally: &mut Tally, record: &Record, ours: &[f64], theirs: &[f64]) {
         let at = differs.unwrap_or(0);
         format!("{record}: place {at} ours {} Rust {}", hex(ours[at]), hex(theirs[at]))
     });
+}
+
+/// The highest order, the functions and their derivatives, with the places above that order.
+fn compare_bessel(
+    tally: &mut Tally,
+    record: &Record,
+    (ours, values, derivatives): (u32, BesselPlaces, BesselPlaces),
+    (theirs, rust_values, rust_derivatives): (i32, BesselPlaces, BesselPlaces),
+) {
+    let (ours, theirs) = (f64::from(ours), f64::from(theirs));
+    let ours = [&[ours], &values[..], &derivatives[..]].concat();
+    let theirs = [&[theirs], &rust_values[..], &rust_derivatives[..]].concat();
+    compare(tally, record, &ours, &theirs);
 }
 
 /// The refusal's number, or 0.

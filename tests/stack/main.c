@@ -33,8 +33,8 @@ struct mode {
 
 /*
  * c of 0 and of 1e-10, which the row treats apart; rows in which a pivot was substituted; small and
- * middle modes; the largest that rows, angular pairs, radial functions and the first kind take; a
- * refused one.
+ * middle modes; the largest that rows, angular pairs and radial functions on the disc and off it take;
+ * a refused one.
  */
 static const struct mode modes[] = {
     {0, 0, 0.0},     {0, 5, 1e-10},    {0, 4, 1e-8},    {4, 4, 1e-4},    {132, 133, 0.5},

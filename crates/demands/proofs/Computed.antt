@@ -90,8 +90,12 @@ unfoldable firstKinds : Bool
 unfolding firstOf pairOrRefusal firstKind common Rmn1.rmn1 Rmn1.toHalf Rmn1.joined Rmn1.offDisc BesselSums.lg BesselSums.factor BesselSums.besselOn logarithms sines bessels
 firstKinds = true
 
+unfoldable arctangents : Bool
+unfolding Arctangents.reaches Arctangents.above Arctangents.below Arctangents.further Arctangents.encloses Arctangents.fine Arctangents.beneath Arctangents.isSure Arctangents.arctangentSeries Arctangents.beside Arctangents.guess Arctangents.halved Arctangents.bisectedFrom Arctangents.bisected Arctangents.arctangentAboveZero Arctangents.rangedArctangent Arctangents.arctangent
+arctangents = true
+
 unfoldable secondKinds : Bool
-unfolding keptOr Sphy.nearZero Sphy.filled Sphy.lowest Sphy.stepsUp Sphy.recurred Sphy.sy Sphy.dy Sphy.highest Rmn2l.largeOn Rmn2l.lost Rmn2l.rmn2l combined turned Gmn.ends Gmn.slopeTerm Gmn.sumOn Gmn.gmn Kmn.r2Of Kmn.sa0Of Kmn.kmn Qstar.skAt Qstar.sAt Qstar.apUpTo Qstar.productOf Qstar.qs0At Qstar.paritySign Qstar.qstar Cbk.firstIndex Cbk.r1At Cbk.added Cbk.s1From Cbk.rightSides Cbk.rows Cbk.eliminated Cbk.substituted Cbk.cbk
+unfolding keptOr Sphy.nearZero Sphy.filled Sphy.lowest Sphy.stepsUp Sphy.recurred Sphy.sy Sphy.dy Sphy.highest Rmn2l.largeOn Rmn2l.lost Rmn2l.rmn2l combined turned Gmn.ends Gmn.slopeTerm Gmn.sumOn Gmn.gmn Kmn.r2Of Kmn.sa0Of Kmn.kmn Qstar.skAt Qstar.sAt Qstar.apUpTo Qstar.productOf Qstar.qs0At Qstar.paritySign Qstar.qstar Cbk.firstIndex Cbk.r1At Cbk.added Cbk.s1From Cbk.rightSides Cbk.rows Cbk.eliminated Cbk.substituted Cbk.cbk arctangents
 secondKinds = true
 
 unfoldable pub computed : Bool

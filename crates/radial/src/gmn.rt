@@ -5,8 +5,8 @@ ghost use Prim.Native.Nat.{_-_, _*_, _<_, _≤_};
 ghost use Rattle.arith.specs.Powers.{power};
 ghost use Rattle.expansion.specs.Terms.{Usable};
 ghost use Rattle.radial.specs.Gmn as Gmn;
-use radial_sums::rmn1::Pair;
 use expansion::sckb::Partial;
+use radial_sums::rmn1::Pair;
 
 // The stopping test of a sum after its k-th term; gw is the sum remembered.
 fn ends(k: u32, sum: f64, gw: f64) -> bool

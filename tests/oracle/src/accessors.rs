@@ -31,3 +31,12 @@ pub(crate) fn cbk_places(m: i32, n: i32, c: f64, cv: f64, qt: f64, ck: &[f64]) -
     cbk(m, n, c, cv, qt, ck, &mut bk);
     bk
 }
+
+/// The digits by which `rswfo` chooses, and whether `rmn2l` came to an order that `sphy` has not.
+pub(crate) fn rmn2l_route(m: i32, n: i32, c: f64, x: f64, cv: f64) -> (i32, bool) {
+    let mut df = [0.0; 200];
+    sdmn(m, n, c, cv, -1, &mut df);
+    let (mut value, mut derivative, mut id) = (0.0, 0.0, 10);
+    let status = rmn2l(m, n, c, x, -1, &df, &mut value, &mut derivative, &mut id);
+    (id, status == Status::Other)
+}

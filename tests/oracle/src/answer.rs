@@ -6,13 +6,12 @@ use crate::reading;
 use crate::record::{Kind, LENGTH, MARK, Record, Request, hex, same};
 use crate::xsf::specfun::{served, unaltered};
 
-/// Which build gives the angular pair and the first kind of operation 8; all else is by the unaltered
-/// text.
+/// Which build gives the angular pair and the radial functions; all else is by the unaltered text.
 #[derive(Clone, Copy, Debug, PartialEq, Eq)]
 pub enum Build {
     /// The Rust as it stands.
     Unaltered,
-    /// Powers by the power rule, and our sine, cosine and decimal logarithm in the Bessel functions.
+    /// Powers by the power rule, and our sine, cosine, decimal logarithm and arctangent.
     PowerRule,
 }
 
@@ -54,16 +53,17 @@ pub fn aswfa(build: Build, kind: Kind, record: &Record, x: f64) -> [f64; 2] {
 }
 
 /// Both oblate radial kinds by `rswfo` with kf = 3.
-pub fn rswfo(record: &Record) -> [f64; 4] {
-    let (m, n) = (i32::from(record.m), i32::from(record.n));
-    let [mut r1f, mut r1d, mut r2f, mut r2d] = [0.0; 4];
-    let Record { c, x, cv, .. } = *record;
-    unaltered::rswfo(m, n, c, x, cv, 3, &mut r1f, &mut r1d, &mut r2f, &mut r2d);
-    [r1f, r1d, r2f, r2d]
+pub fn both_kinds(build: Build, record: &Record) -> [f64; 4] {
+    rswfo(build, record, 3)
 }
 
 /// The oblate first kind by `rswfo` with kf = 1.
 pub fn first_kind(build: Build, record: &Record) -> [f64; 2] {
+    let [r1f, r1d, _, _] = rswfo(build, record, 1);
+    [r1f, r1d]
+}
+
+fn rswfo(build: Build, record: &Record, kf: i32) -> [f64; 4] {
     let (m, n) = (i32::from(record.m), i32::from(record.n));
     let [mut r1f, mut r1d, mut r2f, mut r2d] = [0.0; 4];
     let Record { c, x, cv, .. } = *record;
@@ -71,9 +71,43 @@ pub fn first_kind(build: Build, record: &Record) -> [f64; 2] {
         Build::Unaltered => unaltered::rswfo,
         Build::PowerRule => served::rswfo,
     };
-    rswfo(m, n, c, x, cv, 1, &mut r1f, &mut r1d, &mut r2f, &mut r2d);
-    [r1f, r1d]
+    rswfo(m, n, c, x, cv, kf, &mut r1f, &mut r1d, &mut r2f, &mut r2d);
+    [r1f, r1d, r2f, r2d]
 }
+
+/// How `rswfo` comes to the second kind off the disc.
+#[derive(Clone, Copy, Debug, PartialEq, Eq)]
+pub enum Route {
+    /// By `rmn2l`.
+    Large,
+    /// By `rmn2so`, as x is not above 1e-8.
+    Small,
+    /// By `rmn2so`, as `rmn2l` came to an order that `sphy` has not.
+    Order,
+    /// By `rmn2so`, as `rmn2l` lost its digits.
+    Digits,
+}
+
+/// The route of an accepted record of operation 5 with x above zero.
+pub fn route(build: Build, record: &Record) -> Route {
+    let (m, n) = (i32::from(record.m), i32::from(record.n));
+    let Record { c, x, cv, .. } = *record;
+    if x <= LARGEST_SMALL_ARGUMENT {
+        return Route::Small;
+    }
+    let rmn2l_route = match build {
+        Build::Unaltered => unaltered::rmn2l_route,
+        Build::PowerRule => served::rmn2l_route,
+    };
+    match rmn2l_route(m, n, c, x, cv) {
+        (_, true) => Route::Order,
+        (id, false) if id > -1 => Route::Digits,
+        _ => Route::Large,
+    }
+}
+
+/// Up to it `rswfo` does not ask `rmn2l`.
+const LARGEST_SMALL_ARGUMENT: f64 = 1e-8;
 
 /// Places for Bessel functions.
 pub type BesselPlaces = [f64; 252];
@@ -88,6 +122,18 @@ pub fn sphj(build: Build, x: f64, n: i32) -> (i32, BesselPlaces, BesselPlaces) {
     };
     sphj(x, n, &mut highest, &mut sj, &mut dj);
     (highest, sj, dj)
+}
+
+/// Spherical Bessel functions of the second kind by `sphy`, likewise; above the highest order the place
+/// of one more may be written.
+pub fn sphy(build: Build, x: f64, n: i32) -> (i32, BesselPlaces, BesselPlaces) {
+    let (mut highest, mut sy, mut dy) = (0, [0.0; 252], [0.0; 252]);
+    let sphy = match build {
+        Build::Unaltered => unaltered::sphy,
+        Build::PowerRule => served::sphy,
+    };
+    sphy(x, n, &mut highest, &mut sy, &mut dy);
+    (highest, sy, dy)
 }
 
 /// The order by `msta1`; with refusal 12 applying it may panic.
@@ -191,7 +237,7 @@ pub fn record_lines(build: Build, number: usize, record: &Record) -> String {
         Request::Row(kind) => row_lines(number, kind, record, v_and_z_lines),
         Request::DlmfRow(kind) => row_lines(number, kind, record, d_line),
         Request::Angular(kind) => mode_line('A', number, m, n, &aswfa(build, kind, record, x)),
-        Request::Radial => mode_line('F', number, m, n, &rswfo(record)),
+        Request::Radial => mode_line('F', number, m, n, &both_kinds(build, record)),
         Request::FirstKind => mode_line('G', number, m, n, &first_kind(build, record)),
     }
 }

@@ -1,4 +1,4 @@
-//! Document 01's power rule.
+//! Document 01's power rule, with the negative powers of document 02's Card 5.
 
 /// `y` to a whole `k`: 1 multiplied `k` times by `y`, each product rounded.
 pub fn whole_power(y: f64, k: u32) -> f64 {
@@ -10,9 +10,17 @@ pub fn half_power(y: f64, k: u32) -> f64 {
     y.sqrt() * whole_power(y, k)
 }
 
-/// Stands in for `f64::powf` in `aswfa`, `rmn1` and `sckb`, whose exponents are whole or half-odd and
-/// never negative.
+/// Stands in for `f64::powf` in `aswfa`, `rmn1`, `sckb`, `rmn2l` and `gmn`, whose exponents are whole or
+/// half-odd. A negative power is 1 divided by the positive one (Card 5); −0 is not negative.
 pub fn powf(y: f64, exponent: f64) -> f64 {
+    if exponent < 0.0 {
+        1.0 / positive_power(y, -exponent)
+    } else {
+        positive_power(y, exponent)
+    }
+}
+
+fn positive_power(y: f64, exponent: f64) -> f64 {
     let whole = exponent.floor();
     if exponent == whole {
         whole_power(y, whole as u32)

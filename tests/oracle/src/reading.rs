@@ -77,30 +77,30 @@ fn x_refused(x: f64, request: Request) -> bool {
     match request {
         Request::Row(_) | Request::DlmfRow(_) => false,
         Request::Angular(_) => x.is_nan() || x.abs() > 1.0,
-        Request::Radial => x != 0.0,
-        Request::FirstKind => x.is_nan() || x.is_infinite() || x < 0.0,
+        Request::Radial | Request::FirstKind => x.is_nan() || x.is_infinite() || x < 0.0,
     }
 }
 
 /// Refusal 11, for a record that none before it turns back.
 pub fn off_disc_refused(record: &Record, request: Request) -> bool {
     let Record { m, n, c, x, .. } = *record;
-    request == Request::FirstKind
+    request.is_radial()
         && x > 0.0
         && (2 * terms(m, n, c) + i32::from(m) > GREATEST_BESSEL_ORDER
             || c * x > GREATEST_BESSEL_ARGUMENT)
 }
 
-/// The search for a Bessel order in a record of operation 8 that no refusal to 11 turns back; none
+/// The search for a Bessel order in a record of operation 5 or 8 that no refusal to 11 turns back; none
 /// where `sphj` makes none. The order up to which it is asked for Bessel functions is by the limit of
 /// `rmn1`, which truncates (n - m)/2 and c apart.
 pub fn order_search(record: &Record) -> Option<Result<Search, OutOfRange>> {
     let Record { m, n, c, x, .. } = *record;
-    let searched = record.operation == 8 && x > 0.0 && c * x >= LEAST_SEARCHED_ARGUMENT;
+    let radial = Request::of_operation(record.operation).is_some_and(Request::is_radial);
+    let searched = radial && x > 0.0 && c * x >= LEAST_SEARCHED_ARGUMENT;
     searched.then(|| orders::search(c * x, highest_order(m, n, c)))
 }
 
-/// The order up to which `rmn1` asks for Bessel functions.
+/// The order up to which `rmn1` asks for Bessel functions, and `rmn2l` for those of the second kind.
 pub fn highest_order(m: u16, n: u16, c: f64) -> i32 {
     2 * (25 + i32::from((n - m) / 2) + c as i32) + i32::from(m)
 }

@@ -30,9 +30,9 @@ pub enum Request {
     Row(Kind),
     DlmfRow(Kind),
     Angular(Kind),
-    /// Both oblate radial kinds on the disc.
+    /// Both oblate radial kinds, on the disc and off it.
     Radial,
-    /// The oblate radial function of the first kind, on the disc and off it.
+    /// The oblate radial function of the first kind alone.
     FirstKind,
 }
 
@@ -54,6 +54,10 @@ impl Request {
 
     pub fn is_row(self) -> bool {
         matches!(self, Request::Row(_) | Request::DlmfRow(_))
+    }
+
+    pub fn is_radial(self) -> bool {
+        matches!(self, Request::Radial | Request::FirstKind)
     }
 
     pub fn kind(self) -> Kind {

@@ -16,7 +16,7 @@ pub(crate) fn try_zeroed(n: usize) -> Option<Vec<f64>> {
     Some(vec![0.0; n])
 }
 
-// No operation reaches the next three.
+// No operation reaches the next two.
 
 fn lpmns(_: i32, _: i32, _: f64, _: &mut [f64], _: &mut [f64]) {
     panic!("lpmns is not part of the oracle");
@@ -24,8 +24,4 @@ fn lpmns(_: i32, _: i32, _: f64, _: &mut [f64], _: &mut [f64]) {
 
 fn lqmns(_: i32, _: i32, _: f64, _: &mut [f64], _: &mut [f64]) {
     panic!("lqmns is not part of the oracle");
-}
-
-fn sphy(_: f64, _: i32, _: &mut i32, _: &mut [f64], _: &mut [f64]) {
-    panic!("sphy is not part of the oracle");
 }

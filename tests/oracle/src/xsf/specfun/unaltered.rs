@@ -1,7 +1,7 @@
-//! `sphd.rs`, and `msta1`, `msta2` and `sphj` of `bessel.rs`, as they stand. tests/oracle/build writes
-//! both files.
+//! `sphd.rs`, and `msta1`, `msta2`, `sphj` and `sphy` of `bessel.rs`, as they stand. tests/oracle/build
+//! writes both files.
 
-use super::{SPECFUN_INF, Status, lpmns, lqmns, sphy, try_zeroed};
+use super::{SPECFUN_INF, Status, lpmns, lqmns, try_zeroed};
 
 #[allow(warnings)]
 #[path = "../../../../../target/oracle/unaltered/bessel.rs"]
@@ -10,7 +10,7 @@ mod bessel;
 #[path = "../../../../../target/oracle/unaltered/sphd.rs"]
 mod sphd;
 
-pub(crate) use bessel::{msta1, msta2, sphj};
+pub(crate) use bessel::{msta1, msta2, sphj, sphy};
 pub(crate) use sphd::{
-    aswfa, cbk_places, kmn_factor, qstar_pair, rswfo, sckb_places, sdmn_places, segv,
+    aswfa, cbk_places, kmn_factor, qstar_pair, rmn2l_route, rswfo, sckb_places, sdmn_places, segv,
 };
