@@ -1,5 +1,6 @@
 /*
- * Prints an oblate row, and the angular function of its last mode at a few x. After ./build:
+ * Prints an oblate row, and of its last mode the angular function and both radial functions at a few x.
+ * After ./build:
  *
  *   s=target/spheroidal
  *   cc examples/row.c -I$s/include -L$s/lib -lspheroidal_c -o target/row && target/row
@@ -43,6 +44,21 @@ int main(void) {
             return 1;
         }
         printf("%4.1f  %27.17g  %27.17g\n", x, value, derivative);
+    }
+
+    printf("\nRadial functions of mode %d: on the disc, where x is 0, and off it\n", n);
+    printf("   x                   first kind                  second kind\n");
+    for (int i = 0; i <= 4; i++) {
+        const double x = 2.0 * i;
+        double value1, derivative1, value2, derivative2;
+        answer = spheroidal_oblate_radial(m, n, c, values[n - m], x, &value1, &derivative1, &value2,
+                                          &derivative2);
+        if (answer != SPHEROIDAL_OK) {
+            fprintf(stderr, "the radial functions are refused %d: %s\n", answer,
+                    spheroidal_refusal_sentence(answer));
+            return 1;
+        }
+        printf("%4.1f  %27.17g  %27.17g\n", x, value1, value2);
     }
     return 0;
 }

@@ -20,6 +20,10 @@ def ratio(above, below):
     return above / below if below else math.nan
 
 
+def worst(errors):
+    return max(errors, key=lambda error: math.inf if math.isnan(error) else error)
+
+
 def coefficients(library, kind, m, n, c, cv):
     """The expansion coefficients, by the shared library as ctypes loads it; None where it refuses."""
     call = getattr(library, f"spheroidal_{kind}_coefficients")
@@ -110,9 +114,11 @@ def angular_errors(kind, m, n, c, cv, d, xs, pairs):
     return [off + uncertain * (at_zero + cancellation) for off, cancellation in sums]
 
 
-def wronskian_error(c, first, second):
-    """c (R1 R2' - R1' R2) - 1 from the pairs of both kinds. On the disc it is zero."""
-    return abs(c * (first[0] * second[1] - first[1] * second[0]) - 1)
+def wronskian_error(c, x, four):
+    """c (x x + 1) (R1 R2' - R1' R2) - 1 from value and derivative of both kinds; exact ones give zero."""
+    root = math.hypot(1, x)
+    value1, slope1, value2, slope2 = (root * number for number in four)
+    return abs(c * (value1 * slope2 - slope1 * value2) - 1)
 
 
 ROUNDING = 1e-15
@@ -187,7 +193,7 @@ def first_kind_error(m, n, c, cv, d, x, pair):
     for answer, true, size, error in zip(pair, sums, sizes, uncertain):
         zero = answer == 0 and true == 0  # as one of the two is on the disc
         errors.append(0.0 if zero else ratio(abs(answer - true) + error * abs(true), size))
-    return max(errors, key=lambda error: math.inf if math.isnan(error) else error)
+    return worst(errors)
 
 
 def first_kind_cancellation(m, x, pair):
@@ -197,3 +203,65 @@ def first_kind_cancellation(m, x, pair):
         return 0.0
     part = m / (x * (x * x + 1)) if m else 1 / x
     return ratio(ROUNDING * part * abs(pair[0]), abs(pair[1]))
+
+
+def neumann_functions(z, highest):
+    """Spherical Bessel functions of the second kind of orders 0, 1, .. at z and their derivatives, as the
+    library has them: where one passes 1e300 the others are left at zero, and so are all derivatives but
+    that of order 0. With them the number of orders that the library goes by, which is one less."""
+    if z < 1e-60:
+        return [-1e300] * (highest + 1), [1e300] * (highest + 1), highest
+    sine, cosine = math.sin(z), math.cos(z)
+    values = [-cosine / z, (-cosine / z - sine) / z]
+    slopes = [(sine + cosine / z) / z]
+    for k in range(2, highest + 1):
+        values.append((2 * k - 1) * values[-1] / z - values[-2])
+        if abs(values[-1]) >= 1e300:
+            rest = [0.0] * (highest - k)
+            return values + rest, slopes + [0.0] * highest, k - 1
+    slopes += [values[k - 1] - (k + 1) * values[k] / z for k in range(1, highest)]
+    return values, slopes + [0.0], highest - 1
+
+
+def neumann_sum_kept(m, n, c, d, x):
+    """Whether the second kind at x is the sum of d over these functions. The library takes it where the
+    last term changed value and derivative by less than a tenth, and else the series for small x."""
+    half, odd = (n - m) // 2, (n - m) % 2
+    last = 25 + half + int(c)
+    if x <= 1e-8:
+        return False
+    values, slopes, orders = neumann_functions(c * x, 2 * last + m)
+    total, kept = 0.0, True
+    for table in values, slopes:
+        before, total = total, 0.0
+        factor = math.prod(map(float, range(1, 2 * m + odd + 1))) * (1e-200 if m + last > 80 else 1.0)
+        for k in range(last):
+            if k:
+                factor = factor * (m + k) * (m + k + odd - 0.5) / k / (k + odd - 0.5)
+            total += (-1) ** (half + k) * factor * (d[k] * table[m + 2 * k + odd])
+            change, before = abs(total - before), total
+            if k >= half and change < abs(total) * 1e-14:
+                break
+        if table is values and m + 2 * k + odd >= orders:
+            return False
+        part = ratio(change, abs(total)) + 1e-14
+        kept = kept and not 0.1 < part < math.inf
+    return kept
+
+
+def radial_error(m, n, c, cv, d, x, four, disc):
+    """The error of both oblate kinds at x, the largest of the four numbers; disc has those at x = 0, and d
+    may be None. What is off on the disc grows from there like the first kind while the second falls, which
+    the Wronskian does not see: it counts where the second kind is by the series for small x."""
+    off = wronskian_error(c, x, four)
+    if not d:
+        return worst([off, first_kind_cancellation(m, x, four[:2])])
+    off += recurrence_error("oblate", m, n, c, cv, d)
+    if not x:
+        return off
+    if not neumann_sum_kept(m, n, c, d, x):
+        odd = (n - m) % 2
+        share = ratio(abs(disc[2 + odd]), abs(disc[odd]))
+        growth = worst([ratio(share * abs(four[at]), abs(four[2 + at])) for at in (0, 1)])
+        off += (ROUNDING + wronskian_error(c, 0.0, disc)) * growth
+    return worst([off, first_kind_error(m, n, c, cv, d, x, four[:2])])

@@ -5,17 +5,21 @@
     spheroidal_client.py dlmf oblate m=1 n=6 c=10
     spheroidal_client.py angular oblate m=0 n=4 c=2.5 x=-1:1:9
     spheroidal_client.py radial oblate m=0 n=2 c=1
+    spheroidal_client.py radial oblate m=0 n=2 c=1 x=0:5:11 --wronskian
     spheroidal_client.py first oblate m=0 n=2 c=1 x=0:5:11
 
 m is the order, n the degree, c the size parameter. dlmf is the row as DLMF has it: each value less c * c
 for prolate modes, plus c * c for oblate ones. x is one number or start:stop:count. radial is both oblate
-radial functions on the disc, x=0, which may be left out; first is the first of them alone, at any finite
-x from zero on, with c x up to 200. cv is the characteristic value: where it is left out, it is taken from
-the mode's row. allowance is the most steps for each value of a row, 65535 if left out. A number is
-decimal, or 0x and the 16 digits of a double's bits.
+radial functions, first is the first of them alone, at any finite x from zero on, with c x up to 200; x=0
+is the disc, and radial takes it where x is left out. cv is the characteristic value: where it is left
+out, it is taken from the mode's row. allowance is the most steps for each value of a row, 65535 if left
+out. A number is decimal, or 0x and the 16 digits of a double's bits.
 
 In a row, zero pivot says whether 1e-30 was put in for a pivot of zero while the value was bisected.
 That is no error, and common at small c.
+
+--wronskian prints beside each radial answer to how many digits its Wronskian R1 R2' - R1' R2 is the exact
+one, 1/(c (x x + 1)). The four numbers may have fewer right digits than that.
 
 Angular and radial answers are checked (docs/ACCURACY.md): where fewer than 6 digits are left or a
 number is not finite, a warning is printed on the error output. The table stays as it is.
@@ -62,6 +66,7 @@ OPTIONAL = {
 NAMES = {"angular": "angular function", "radial": "radial functions", "first": "first-kind radial function"}
 # Why an operation is refused; where it matters, a sentence for each operation.
 RADIAL_LIMIT = "(n - m)/2 + c is 175 or more, or its whole part and m together are above 175"
+RADIAL_ARGUMENT = "x is not a finite number from zero on"
 REFUSALS = {
     3: "the record program does not know this operation: it may be older than this client",
     4: "m is above 199, n is below m, or n - m is above 199",
@@ -76,8 +81,8 @@ REFUSALS = {
     7: "cv is not a finite number",
     8: {
         "angular": "x is not a number from -1 to 1",
-        "radial": "x is not zero",
-        "first": "x is not a finite number from zero on",
+        "radial": RADIAL_ARGUMENT,
+        "first": RADIAL_ARGUMENT,
     },
     10: "a value used up its allowance of steps",
     11: "off the disc c x is above 200, or twice the whole part of (n - m)/2 + c and m together are above 201",
@@ -243,8 +248,9 @@ def errors_of(program, what, kind, fields, cv, d, answers):
     m, n, c = fields["m"], fields["n"], fields["c"]
     xs, numbers = zip(*answers)
     if what == "radial":
-        unfit = checks.recurrence_error(kind, m, n, c, cv, d) if d else 0.0
-        return [(x, checks.wronskian_error(c, four[:2], four[2:]) + unfit) for x, four in answers]
+        [[words]] = ask(program, [record(OPERATIONS[what, kind], fields, cv)])
+        disc = [double(digits) for digits in words[3:]]
+        return [(x, checks.radial_error(m, n, c, cv, d, x, four, disc)) for x, four in answers]
     if what == "first":
         if d:
             return [(x, checks.first_kind_error(m, n, c, cv, d, x, pair)) for x, pair in answers]
@@ -287,11 +293,18 @@ def plotter():
     return matplotlib.pyplot
 
 
-def plot(pyplot, path, title, xs, values):
+def plot(pyplot, path, title, xs, curves):
+    """Curves are pairs of a name and values. Of two, the second may be far larger: it is drawn on a scale
+    that is linear as far as the first goes, and logarithmic beyond."""
     figure, axes = pyplot.subplots()
-    axes.plot(xs, values)
+    for name, values in curves:
+        axes.plot(xs, values, label=name)
     axes.set(title=title, xlabel="x", ylabel="value")
     axes.grid(True)
+    if len(curves) > 1:
+        sizes = [abs(value) for value in curves[0][1] if math.isfinite(value) and value]
+        axes.set_yscale("symlog", linthresh=max(sizes, default=1.0))
+        axes.legend()
     try:
         figure.savefig(path)
     except (OSError, ValueError) as error:
@@ -304,8 +317,10 @@ def run(options):
     if (what, kind) not in OPERATIONS:
         raise Misunderstood(f"there are no {kind} radial functions here, only oblate ones")
     fields = fields_of(what, options.words)
-    if options.plot and (what not in ("angular", "first") or len(fields["x"]) < 2):
-        raise Misunderstood("--plot is for angular and first with x=start:stop:count")
+    if options.plot and len(fields.get("x", [])) < 2:
+        raise Misunderstood("--plot is for angular, radial and first with x=start:stop:count")
+    if options.wronskian and what != "radial":
+        raise Misunderstood("--wronskian is for radial")
     pyplot = plotter() if options.plot else None
     program = options.program or os.environ.get("SPHEROIDAL") or str(PROGRAM)
     library = options.library or os.environ.get("SPHEROIDAL_LIBRARY") or str(LIBRARY)
@@ -337,14 +352,22 @@ def run(options):
     heads = ["x", "value", "derivative"]
     if what == "radial":
         heads = ["x", "first kind", "derivative", "second kind", "derivative"]
+    if options.wronskian:
+        heads.append("Wronskian's digits")
     rows, refused, accepted = [], [], []
     for x, [[letter, *words]] in zip(xs, answers):
         if letter == "R":
+            if what == "radial" and words == ["8"] and 0 < x < math.inf:
+                said = f"{program} refuses both radial functions off the disc, where x is above zero"
+                raise Misunderstood(f"{said}: it may be older than this client\n{MADE_BY}")
             refused.append(int(words[0]))
             words = [f"refused {words[0]}"] * (len(heads) - 1)
         else:
-            accepted.append((x, [double(digits) for digits in words[2:]]))
+            numbers = [double(digits) for digits in words[2:]]
+            accepted.append((x, numbers))
             words = [show(digits) for digits in words[2:]]
+            if options.wronskian:
+                words.append(str(checks.digits(checks.wronskian_error(fields["c"], x, numbers))))
         rows.append([show(struct.pack(">d", x).hex()), *words])
     if accepted:
         print(f"{title}, cv = {show(struct.pack('>d', cv).hex())}")
@@ -354,7 +377,9 @@ def run(options):
     if refused:
         raise Refused(refused[0], what)
     if pyplot:
-        plot(pyplot, options.plot, title, xs, [double(lines[0][3]) for lines in answers])
+        places = {"first kind": 0, "second kind": 2} if what == "radial" else {"value": 0}
+        curves = [(name, [numbers[at] for _, numbers in accepted]) for name, at in places.items()]
+        plot(pyplot, options.plot, title, xs, curves)
 
 
 def main():
@@ -363,7 +388,8 @@ def main():
     parser.add_argument("kind", choices=["prolate", "oblate"])
     parser.add_argument("words", nargs="*", metavar="key=value")
     parser.add_argument("--bits", action="store_true", help="print doubles as the 16 digits of their bits")
-    parser.add_argument("--plot", metavar="FILE", help="plot an angular function or a first kind (needs matplotlib)")
+    parser.add_argument("--plot", metavar="FILE", help="plot an angular or radial function (needs matplotlib)")
+    parser.add_argument("--wronskian", action="store_true", help="print the Wronskian's digits beside radial answers")
     parser.add_argument("--program", help="the record program; by default SPHEROIDAL or target/bin/spheroidal")
     parser.add_argument("--library", help="the library for the checks; by default SPHEROIDAL_LIBRARY or what ./build makes")
     try:

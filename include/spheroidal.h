@@ -1,9 +1,9 @@
 /*
  * Spheroidal modes of a flat disc, proved: characteristic values, expansion coefficients, angular
- * functions, both oblate radial functions on the disc, and the first kind off it. For C99 and C++11 or
- * later, on x86-64 Linux. `./build` makes the library, libspheroidal_c.a, which needs nothing but
- * memcpy and memset: no -lm. It is position-independent; `./build` makes a shared library of it, as
- * this line does:
+ * functions, and both oblate radial functions on the disc and off it. For C99 and C++11 or later, on
+ * x86-64 Linux. `./build` makes the library, libspheroidal_c.a, which needs nothing but memcpy and
+ * memset: no -lm. It is position-independent; `./build` makes a shared library of it, as this line
+ * does:
  *
  *   cc -shared -o libspheroidal_c.so -Wl,--whole-archive libspheroidal_c.a -Wl,--no-whole-archive
  *
@@ -25,10 +25,10 @@
  *
  * Where digits end: an answer is what the ported formulas give in doubles. Characteristic values are
  * right to 14 digits, near a zero to 14 digits of c * c; the exact value may lie just outside its
- * bracket. With c from 1e-4 to 10, m up to 12 and n - m up to 15, angular and radial functions have at
- * least 7 right digits and coefficients 11; off the disc, but near it, the first kind's derivative may
- * have none. Elsewhere there may be none, and NaN and infinity can be answers. docs/ACCURACY.md says
- * where, and how a caller can check.
+ * bracket. With c from 1e-4 to 10, m up to 12 and n - m up to 15, angular functions and radial
+ * functions on the disc have at least 7 right digits and coefficients 11; what radial functions have
+ * off the disc stands with them below. Elsewhere there may be none, and NaN and infinity can be
+ * answers. docs/ACCURACY.md says where, and how a caller can check.
  *
  * No argument value is forbidden; each is answered or refused. What C cannot check, the caller keeps:
  *
@@ -44,7 +44,7 @@
  *
  * The functions keep no state, allocate nothing, touch no errno and may run in any number of threads
  * at once. Measured on x86-64, they use up to 29,400 bytes of stack in rows, 34,700 in DLMF rows,
- * 12,400 in radial functions and 5,200 in the others. Before 3.0.1 rows of both forms used 2,416 bytes
+ * 14,400 in radial functions and 5,200 in the others. Before 3.0.1 rows of both forms used 2,416 bytes
  * more, for a buffer of squares.
  */
 #ifndef SPHEROIDAL_H
@@ -57,10 +57,10 @@
  * The version. MAJOR moves where a correct program may have to change or gets other answers, MINOR
  * where something is added, PATCH where neither: speed, memory, comments, how it is built.
  */
-#define SPHEROIDAL_VERSION_MAJOR 4
+#define SPHEROIDAL_VERSION_MAJOR 5
 #define SPHEROIDAL_VERSION_MINOR 0
 #define SPHEROIDAL_VERSION_PATCH 0
-#define SPHEROIDAL_VERSION "4.0.0"
+#define SPHEROIDAL_VERSION "5.0.0"
 
 /*
  * What a function answers. 1 to 3 are refusals of the record program and never come from here. Let
@@ -76,17 +76,20 @@
 /* cv is NaN or infinite. */
 #define SPHEROIDAL_REFUSED_CHARACTERISTIC_VALUE 7
 /*
- * Angular functions: x is NaN, below -1 or above 1. Both radial kinds: x is not zero of either sign.
- * The first kind alone: x is NaN, infinite or below zero; -0.0 passes.
+ * Angular functions: x is NaN, below -1 or above 1. Radial functions: x is NaN, infinite or below
+ * zero; -0.0 passes.
  */
 #define SPHEROIDAL_REFUSED_ARGUMENT 8
 /* A lent buffer has fewer than n - m + 1 places (rows) or than 200 (coefficients). */
 #define SPHEROIDAL_REFUSED_BUFFER 9
 /* A value used up its allowance of steps. */
 #define SPHEROIDAL_REFUSED_ALLOWANCE 10
-/* The first kind with x > 0: 2N + m > 251, or c * x, in doubles, is above 200. */
+/* Radial functions with x > 0: 2N + m > 251, or c * x, in doubles, is above 200. */
 #define SPHEROIDAL_REFUSED_OFF_THE_DISC 11
-/* The first kind: a trial order of its Bessel functions lies outside 1 to 100000. None is known. */
+/*
+ * Radial functions with x > 0: a trial order of the first kind's Bessel functions lies outside 1 to
+ * 100000. None is known.
+ */
 #define SPHEROIDAL_REFUSED_TRIAL_ORDER 12
 
 /* An answer's number in words. */
@@ -103,8 +106,7 @@ static inline const char *spheroidal_refusal_sentence(uint8_t answer) {
     case SPHEROIDAL_REFUSED_CHARACTERISTIC_VALUE:
         return "the characteristic value is not finite";
     case SPHEROIDAL_REFUSED_ARGUMENT:
-        return "x is out of range: -1 to 1 if angular, zero for both radial kinds, finite and not "
-               "below zero for the first alone";
+        return "x is out of range: -1 to 1 if angular, finite and not below zero if radial";
     case SPHEROIDAL_REFUSED_BUFFER:
         return "a lent buffer is too short";
     case SPHEROIDAL_REFUSED_ALLOWANCE:
@@ -150,8 +152,8 @@ static inline const char *spheroidal_refusal_sentence(uint8_t answer) {
  *   d/dx ((x^2 + 1) dR/dx) - (cv - c^2 x^2 - m^2/(x^2 + 1)) R = 0,
  *
  * and for large x approach cos(c x - (n + 1) pi/2)/(c x) and sin(c x - (n + 1) pi/2)/(c x). x = 0 is
- * the disc itself, and c = k a for a disc of radius a and the wave number k. The Wronskian there,
- * R1 R2' - R1' R2, is 1/c.
+ * the disc itself, and c = k a for a disc of radius a and the wave number k. The Wronskian,
+ * R1 R2' - R1' R2, is 1/(c (x^2 + 1)).
  */
 
 #ifdef __cplusplus
@@ -232,12 +234,23 @@ uint8_t spheroidal_oblate_angular(uint16_t m, uint16_t n, double c, double cv, d
                                   double *value, double *derivative);
 
 /*
- * Both oblate radial functions of mode n with their derivatives on the disc, where x is 0.0 or -0.0,
- * with cv as above: value1 and derivative1 are of the first kind, value2 and derivative2 of the
- * second. The second kind is 1e300 twice where the first expansion coefficient is at most 1e-280 in
- * size.
+ * Both oblate radial functions of mode n with their derivatives at x, on the disc and off it, with cv
+ * as above: value1 and derivative1 are of the first kind, value2 and derivative2 of the second. x is
+ * any finite number from zero on; where it is above zero, 2N + m is at most 251 and c * x at most 200.
+ * At x of 0.0 and -0.0, which is the disc, and near it the second kind is 1e300 twice where the first
+ * expansion coefficient is at most 1e-280 in size.
  *
- * Writes all four places. Refusals: 4, 5, 6, 7, 8.
+ * Before 5.0 an x above zero was refused (8). A program that relied on this is to test x itself, and
+ * one that takes x as it comes is to expect refusals 11 and 12.
+ *
+ * Where digits end off the disc: the first kind is that of spheroidal_oblate_first_kind, below. With m
+ * up to 12, value and derivative of the second kind have 12 right digits or more from x of 4 on, with
+ * c from 0.01 on and n - m up to 30, and 7 from x of 1e-6 to 0.1, with c from 1e-4 to 10 and n - m up
+ * to 10. From x of 0.7 to 3 there may be none, from c of 20 on also below that. Where c * x is too
+ * small for the mode the derivative is wrong beside a right value: below 4.5e-5 for m = n = 0 and c
+ * below 1, below 0.011 for n = 30. The Wronskian tells most of this.
+ *
+ * Writes all four places. Refusals: 4, 5, 6, 7, 8, 11, 12.
  */
 uint8_t spheroidal_oblate_radial(uint16_t m, uint16_t n, double c, double cv, double x,
                                  double *value1, double *derivative1,
@@ -246,7 +259,7 @@ uint8_t spheroidal_oblate_radial(uint16_t m, uint16_t n, double c, double cv, do
 /*
  * The oblate radial function of the first kind of mode n and its derivative at x, on the disc and off
  * it, with cv as above. x is any finite number from zero on; where it is above zero, 2N + m is at most
- * 251 and c * x at most 200. At x of 0.0 and -0.0 it gives what spheroidal_oblate_radial gives.
+ * 251 and c * x at most 200. It is value1 and derivative1 of spheroidal_oblate_radial.
  *
  * Where digits end: with c from 0.1 to 10, m up to 12 and n - m up to 20, value and derivative have 11
  * right digits or more from x of 0.1 on, with c up to 40 at least 7; the value has 11 and 6 from x of

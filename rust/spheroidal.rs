@@ -25,7 +25,7 @@ use std::error::Error;
 use std::fmt;
 
 /// The version, that of the header; which of its numbers moves when is said there.
-pub const VERSION: &str = "4.0.0";
+pub const VERSION: &str = "5.0.0";
 
 /// The largest m.
 pub const LARGEST_ORDER: u16 = 199;
@@ -99,16 +99,17 @@ pub enum Refusal {
     TooLarge,
     /// The characteristic value is NaN or infinite.
     CharacteristicValue,
-    /// x is NaN or outside −1 to 1 in angular functions, not zero in `radial`, and in `first_kind` NaN,
-    /// infinite or below zero.
+    /// x is NaN or outside −1 to 1 in angular functions, and in `radial` and `first_kind` NaN, infinite or
+    /// below zero.
     Argument,
     /// A lent slice is too short.
     Buffer,
     /// A value used up its allowance of steps.
     Allowance,
-    /// In `first_kind` with x above zero, 2N + m is above 251 or c · x above 200.
+    /// In `radial` and `first_kind` with x above zero, 2N + m is above 251 or c · x above 200.
     OffTheDisc,
-    /// In `first_kind`, a trial order of the Bessel functions is outside 1 to 100,000. None is known.
+    /// In `radial` and `first_kind` with x above zero, a trial order of the Bessel functions is outside 1
+    /// to 100,000. None is known.
     TrialOrder,
 }
 
@@ -138,8 +139,7 @@ impl Refusal {
             }
             Refusal::CharacteristicValue => "the characteristic value is not finite",
             Refusal::Argument => {
-                "x is out of range: -1 to 1 if angular, zero for both radial kinds, finite and not \
-                 below zero for the first alone"
+                "x is out of range: -1 to 1 if angular, finite and not below zero if radial"
             }
             Refusal::Buffer => "a lent buffer is too short",
             Refusal::Allowance => "a value used up its allowance of steps",
@@ -301,8 +301,9 @@ pub fn angular(kind: Kind, mode: Mode, cv: f64, x: f64) -> Result<Pair, Refusal>
     Ok(Pair { value, derivative })
 }
 
-/// Both oblate radial functions of mode n with the characteristic value cv on the disc, where x is
-/// zero of either sign.
+/// Both oblate radial functions of mode n with the characteristic value cv, at a finite x from zero on: on
+/// the disc and off it. Before 5.0 an x above zero was refused. Off the disc digits of the second kind are
+/// lost, most from x of 0.7 to 3; the header says where.
 pub fn radial(mode: Mode, cv: f64, x: f64) -> Result<Radial, Refusal> {
     let zero = Pair {
         value: 0.0,

@@ -1,9 +1,11 @@
 """Prints the tables of docs/ACCURACY.md: right digits of characteristic values, coefficients, angular
-functions, radial functions on the disc and the first of them off it, all from the record program and
-the library, against the high-precision reference; and how often the checks for callers err.
+functions and radial functions on the disc and off it, all from the record program and the library,
+against the high-precision reference; and how often the checks for callers err. SPHEROIDAL and
+SPHEROIDAL_LIBRARY name another program and library, as for the client.
 """
 import ctypes
 import math
+import os
 import random
 import sys
 from dataclasses import dataclass
@@ -27,10 +29,15 @@ ARGUMENTS = (0.0, 0.1, 0.3, 0.5, 0.7, 0.9, 0.99)
 # Of the first kind off the disc, and from where on near the disc is left.
 OFF_DISC = (1e-8, 1e-6, 1e-4, 1e-3, 0.01, 0.1, 0.3, 1.0, 3.0, 10.0, 50.0)
 AWAY = 0.1
+# Of the second kind off the disc.
+SECOND_PARAMETERS = (1e-4, 1e-3, 0.01, 0.1, 1.0, 2.0, 5.0, 10.0, 20.0, 40.0, 80.0, 100.0)
+SECOND_ORDERS, SECOND_OFFSETS = (0, 1, 2, 3, 5, 8, 12), (*range(11), 15, 20, 25, 30)
+SECOND_OFF_DISC = (1e-9, 1e-6, 1e-3, 0.1, 0.3, 0.5, 0.7, 1.0, 1.5, 2.0, 3.0, 5.0, 10.0, 50.0, 1000.0)
 # Digits in which two ways of the reference must agree.
 LEAST_AGREEMENT = 40
 ENOUGH = client.LEAST_DIGITS
-LIBRARY = ctypes.CDLL(str(client.LIBRARY))
+PROGRAM = os.environ.get("SPHEROIDAL") or str(client.PROGRAM)
+LIBRARY = ctypes.CDLL(os.environ.get("SPHEROIDAL_LIBRARY") or str(client.LIBRARY))
 
 
 @dataclass
@@ -68,7 +75,7 @@ def answers_of(modes):
     for kind, m, n, c in modes:
         lasts[kind, m, c] = max(n, lasts.get((kind, m, c), m))
     records = [record("row", kind, m, n, c) for (kind, m, c), n in lasts.items()]
-    rows = dict(zip(lasts, client.ask(str(client.PROGRAM), records)))
+    rows = dict(zip(lasts, client.ask(PROGRAM, records)))
     answers = []
     for kind, m, n, c in modes:
         value, lower, upper = map(client.double, rows[kind, m, c][n - m][3:6])
@@ -76,20 +83,25 @@ def answers_of(modes):
         if d:
             answers.append(Answer(kind, m, n, c, value, lower, upper, d))
     asked = [record("angular", a.kind, a.m, a.n, a.c, a.value, x) for a in answers for x in ARGUMENTS]
-    pairs = list(map(doubles, client.ask(str(client.PROGRAM), asked)))
+    pairs = list(map(doubles, client.ask(PROGRAM, asked)))
     asked = [record("radial", "oblate", a.m, a.n, a.c, a.value) for a in answers]
-    fours = map(doubles, client.ask(str(client.PROGRAM), asked))
+    fours = map(doubles, client.ask(PROGRAM, asked))
     for i, (answer, four) in enumerate(zip(answers, fours)):
         answer.pairs = pairs[i * len(ARGUMENTS) : (i + 1) * len(ARGUMENTS)]
         answer.four = four if answer.kind == "oblate" else None
     return answers
 
 
-def first_kinds(answers, arguments=OFF_DISC):
+def first_kinds(answers, arguments=OFF_DISC, what="first"):
     """The pairs of the first kind of each oblate answer, None where one is refused."""
-    asked = [record("first", "oblate", a.m, a.n, a.c, a.value, x) for a in answers for x in arguments]
-    pairs = iter(map(doubles, client.ask(str(client.PROGRAM), asked)) if asked else [])
-    return [[next(pairs) for _ in arguments] for _ in answers]
+    asked = [record(what, "oblate", a.m, a.n, a.c, a.value, x) for a in answers for x in arguments]
+    found = iter(map(doubles, client.ask(PROGRAM, asked)) if asked else [])
+    return [[next(found) for _ in arguments] for _ in answers]
+
+
+def both_kinds(answers, arguments):
+    """The four numbers of both kinds of each oblate answer, None where they are refused."""
+    return first_kinds(answers, arguments, "radial")
 
 
 def record(what, kind, m, n, c, cv=0.0, x=0.0):
@@ -138,11 +150,21 @@ def disc_digits(answer, truth):
     return min(relative(found, true) for found, true in pairs)
 
 
-def first_kind_digits(answer, truth, x, pair):
+def first_kind_digits(truth, x, pair):
+    return pair_digits(truth, x, pair, truth.first_off_disc(Decimal(x)))
+
+
+def second_kind_digits(truth, arguments, fours):
+    """For each argument of the second kind, where the four numbers are not refused."""
+    accepted = [Decimal(x) for x, four in zip(arguments, fours) if four]
+    pairs = iter(truth.second_off_disc(accepted))
+    return [pair_digits(truth, x, four[2:], next(pairs)) if four else None for x, four in zip(arguments, fours)]
+
+
+def pair_digits(truth, x, pair, true):
     """Of value and of derivative, each against itself; where the function oscillates and passes through
     zero, against its amplitude. What is below the least normal double is right where the answer is too."""
-    m, x = answer.m, Decimal(x)
-    true = truth.first_off_disc(x)
+    m, x = truth.m, Decimal(x)
     square = ((Decimal(truth.c) * x) ** 2 - truth.value + m * m / (1 + x * x)) / (1 + x * x)
     sizes = list(map(abs, true))
     if square > 0:
@@ -159,7 +181,10 @@ def first_kind_digits(answer, truth, x, pair):
 
 
 def wronskian_digits(answer):
-    error = checks.wronskian_error(answer.c, answer.four[:2], answer.four[2:])
+    return finite_digits(checks.wronskian_error(answer.c, 0.0, answer.four))
+
+
+def finite_digits(error):
     return digits(error) if math.isfinite(error) else 0.0
 
 
@@ -194,12 +219,12 @@ def table_modes(kind, parameters):
     return [(kind, m, n, c) for c in parameters for m, n in sorted({*wide, *long})]
 
 
-def print_by_argument(heading, measured, parameters):
-    """Least and median digits by c and x; `measured` has c, x and digits."""
-    print(f"{heading}\n\n| c | {' | '.join(f'x {x:g}' for x in OFF_DISC)} |\n|" + "---|" * (len(OFF_DISC) + 1))
-    for c in parameters:
-        cells = [least_and_median([d for c2, x2, d in measured if (c2, x2) == (c, x)]) for x in OFF_DISC]
-        print(f"| {c:g} | {' | '.join(cells)} |")
+def print_by_argument(heading, measured, rows, arguments=OFF_DISC, name="c"):
+    """Least and median digits by c, or what else the rows are, and x; `measured` has row, x and digits."""
+    print(f"{heading}\n\n| {name} | {' | '.join(f'x {x:g}' for x in arguments)} |\n|" + "---|" * (len(arguments) + 1))
+    for row in rows:
+        cells = [least_and_median([d for r, x2, d in measured if (r, x2) == (row, x)]) for x in arguments]
+        print(f"| {row:g} | {' | '.join(cells)} |")
     print()
 
 
@@ -213,7 +238,7 @@ def print_first_kind(parameters):
         truth, least = answer.truth(), []
         for x, pair in zip(OFF_DISC, pairs):
             if pair:
-                value, slope = first_kind_digits(answer, truth, x, pair)
+                value, slope = first_kind_digits(truth, x, pair)
                 if answer.m in orders and answer.n - answer.m in offsets:
                     values.append((answer.c, x, value))
                     (others if answer.m else first).append((answer.c, x, slope))
@@ -239,7 +264,7 @@ def print_first_kind_least(parameters, largest_order, largest_offset):
         for answer, pairs in zip(answers, first_kinds(answers, arguments)):
             truth = answer.truth()
             for x, pair in zip(arguments, pairs):
-                value, slope = first_kind_digits(answer, truth, x, pair) if pair else (16.0, 16.0)
+                value, slope = first_kind_digits(truth, x, pair) if pair else (16.0, 16.0)
                 found = [value, *([value, slope] if x >= AWAY else [16.0] * 2), min(value, slope) if x >= 1 else 16.0]
                 least = list(map(min, least, found))
         print(f"| {c:g} | {' | '.join(str(int(digits)) for digits in least)} |")
@@ -256,10 +281,50 @@ def print_near_disc(orders, c):
         [pairs] = first_kinds([answer], [10**e for e in exponents])
         truth, found = answer.truth(), [None] * 4
         for e, pair in zip(exponents, pairs):
-            tests = [not found[0] and first_kind_digits(answer, truth, 10**e, pair)[1] < ENOUGH]
+            tests = [not found[0] and first_kind_digits(truth, 10**e, pair)[1] < ENOUGH]
             tests += [pair[0] == 0, math.isnan(pair[0]), math.isnan(pair[1])]
             found = [f or (t and f"{10**e:.0e}") for f, t in zip(found, tests)]
         print(f"| {m} | {' | '.join(f or 'nowhere' for f in found)} |")
+    print()
+
+
+def print_second_kind(parameters):
+    """The second kind off the disc by c and by n - m, all of it and by the formula that gave it."""
+    found, wronskian = [], []
+    answers = answers_of([("oblate", m, m + o, c) for c in parameters for m in SECOND_ORDERS for o in SECOND_OFFSETS])
+    for a, fours in zip(answers, both_kinds(answers, SECOND_OFF_DISC)):
+        for x, four, both in zip(SECOND_OFF_DISC, fours, second_kind_digits(a.truth(), SECOND_OFF_DISC, fours)):
+            if both:
+                found.append((a, x, min(both), checks.neumann_sum_kept(a.m, a.n, a.c, a.d, x)))
+                wronskian.append((a.c, x, finite_digits(checks.wronskian_error(a.c, x, four))))
+    print("### Oblate second kind off the disc\n")
+    modes = "m of 0, 1, 2, 3, 5, 8, 12 and n − m to 10, 15, 20, 25, 30"
+    table = lambda heading, measured: print_by_argument(heading, measured, parameters, SECOND_OFF_DISC)
+    table(f"Value and derivative, the lesser of both, by c and x, over {modes}:", [(a.c, x, d) for a, x, d, _ in found])
+    table("The same where `rmn2l` gave them:", [(a.c, x, d) for a, x, d, far in found if far])
+    table("The same where `rmn2so` gave them:", [(a.c, x, d) for a, x, d, far in found if not far])
+    print("By n − m and x, over c from 0.01 to 10. ", end="")
+    middle = [f for f in found if 0.01 <= f[0].c <= 10]
+    for heading, orders in ("With m of 0, 1, 2, 3:", (0, 1, 2, 3)), ("With m of 5, 8, 12:", (5, 8, 12)):
+        by_offset = [(a.n - a.m, x, d) for a, x, d, _ in middle if a.m in orders]
+        print_by_argument(heading, by_offset, SECOND_OFFSETS, SECOND_OFF_DISC, "n − m")
+    table("By the Wronskian of both kinds, by c and x, over the same modes:", wronskian)
+
+
+def print_second_kind_least(parameters, largest_order, largest_offset):
+    """The least digits of all modes with small m and n - m, by ranges of x."""
+    arguments = (1e-6, 1e-4, 0.01, 0.1, 0.2, 0.3, 0.5, 0.7, 1.0, 1.5, 2.0, 3.0, 4.0, 5.0, 7.0, 10.0, 20.0)
+    ranges = (1e-6, 0.1), (0.2, 0.5), (0.7, 1.0), (1.5, 3.0), (4.0, 20.0)
+    print(f"### Least digits of the second kind with m up to {largest_order} and n − m up to {largest_offset}\n")
+    print(f"| c | {' | '.join(f'x {low:g} to {high:g}' for low, high in ranges)} |\n|" + "---|" * (len(ranges) + 1))
+    for c in parameters:
+        numbers = [(m, m + o) for m in range(largest_order + 1) for o in range(largest_offset + 1)]
+        answers, least = answers_of([("oblate", m, n, c) for m, n in numbers]), [16.0] * len(ranges)
+        for answer, fours in zip(answers, both_kinds(answers, arguments)):
+            found = list(zip(arguments, second_kind_digits(answer.truth(), arguments, fours)))
+            for at, (low, high) in enumerate(ranges):
+                least[at] = min([least[at], *(min(both) for x, both in found if both and low <= x <= high)])
+        print(f"| {c:g} | {' | '.join(str(int(digits)) for digits in least)} |")
     print()
 
 
@@ -302,7 +367,7 @@ def print_dlmf(parameters, orders, offsets):
         worst = []
         for kind in KINDS:
             errors = []
-            rows = client.ask(str(client.PROGRAM), [record("dlmf", kind, m, n, c) for m, n in modes])
+            rows = client.ask(PROGRAM, [record("dlmf", kind, m, n, c) for m, n in modes])
             for (m, n), lines in zip(modes, rows):
                 value = client.double(lines[-1][-1])
                 true = dlmf_eigenvalue(kind, m, n, c, value)
@@ -338,7 +403,7 @@ def print_zero_pivots(count):
         m = choice.randrange(7)
         modes.append((choice.choice(KINDS), m, m + choice.randrange(9), 10 ** choice.uniform(-10, -3)))
     errors = {"yes": [], "no": []}
-    for (kind, m, _, c), row in zip(modes, client.ask(str(client.PROGRAM), [record("row", *mode) for mode in modes])):
+    for (kind, m, _, c), row in zip(modes, client.ask(PROGRAM, [record("row", *mode) for mode in modes])):
         flags = [client.ZERO_PIVOT[line[-1]] for line in row]
         if "yes" in flags:
             for n, (line, flag) in enumerate(zip(row, flags), m):
@@ -361,7 +426,7 @@ def print_reliable(parameters, largest_order, largest_offset):
             truth = answer.truth()
             found = [min(angular_digits(answer, truth)), coefficient_digits(answer, truth)]
             if answer.four:
-                away = [first_kind_digits(answer, truth, x, pair) for x, pair in zip(arguments, pairs) if pair]
+                away = [first_kind_digits(truth, x, pair) for x, pair in zip(arguments, pairs) if pair]
                 found += [disc_digits(answer, truth), min(map(min, away))]
             least = list(map(min, least, found + least[len(found) :]))
         print(f"| {c:g} | {' | '.join(str(int(digits)) for digits in least)} |")
@@ -370,7 +435,7 @@ def print_reliable(parameters, largest_order, largest_offset):
 
 # ---- why digits are lost
 
-# What is asked: the angular function at x, or a coefficient.
+# What is asked: the angular function at x, a coefficient, or the second kind or its derivative at x.
 EXAMPLES = (
     ("oblate", 0, 30, 1.0, "S", 0.0),
     ("oblate", 0, 40, 1.0, "S", 0.0),
@@ -383,6 +448,14 @@ EXAMPLES = (
     ("oblate", 30, 50, 40.0, "coefficient", 0),
     ("prolate", 100, 120, 60.0, "coefficient", 0),
     ("oblate", 114, 114, 1.0, "S", 0.0),
+    ("oblate", 0, 2, 1.0, "R2", 1.1),
+    ("oblate", 0, 0, 10.0, "R2", 1.0),
+    ("oblate", 0, 9, 1.0, "R2", 2.0),
+    ("oblate", 0, 15, 1.0, "R2", 1.0),
+    ("oblate", 0, 0, 30.0, "R2", 0.5),
+    ("oblate", 0, 6, 1e-4, "R2", 2.0),
+    ("oblate", 0, 6, 1e-4, "R2'", 2.0),
+    ("oblate", 1, 1, 1.0, "R2'", 1e-12),
 )
 
 
@@ -392,8 +465,12 @@ def print_examples():
         [answer] = answers_of([tuple(mode)])
         truth = answer.truth()
         if what == "S":
-            [lines] = client.ask(str(client.PROGRAM), [record("angular", *mode, answer.value, at)])
+            [lines] = client.ask(PROGRAM, [record("angular", *mode, answer.value, at)])
             found, true = doubles(lines)[0], truth.angular(Decimal(at))[0]
+        elif what.startswith("R2"):
+            place = what.endswith("'")
+            [[four]] = both_kinds([answer], [at])
+            found, true = four[2 + place], truth.second_off_disc([Decimal(at)])[0][place]
         else:
             found, true = answer.d[at], truth.d[at]
         print(f"| {named(answer)} | {what} {at} | {found:.8g} | {true:.8g} |")
@@ -421,8 +498,10 @@ def print_wrong_directions(parameters):
 
 def print_self_test(modes):
     """The sum over Legendre functions against the power series of the differential equation, the
-    Wronskian of the radial functions, and the sum over Bessel functions against the series from the disc."""
-    least = {"power series": 99, "Wronskian": 99, "series from the disc": 99}
+    Wronskian of the radial functions, the sum over Bessel functions against the series from the disc, and
+    the second kind at 5, by the series from its sum at 12, against its sum there."""
+    names = "power series", "Wronskian", "series from the disc", "Wronskian off the disc", "second kind's sum at 5"
+    least = dict.fromkeys(names, 99)
     for answer in answers_of(modes):
         truth, x = answer.truth(), Decimal("0.6")
         agreement = {"power series": truth.angular(x)[0] / truth.angular_by_powers(x) - 1}
@@ -433,6 +512,12 @@ def print_self_test(modes):
             far = Decimal(5)
             pairs = zip(truth.first_off_disc(far), truth.first_by_steps(far))
             agreement["series from the disc"] = max(abs(found / true - 1) for found, true in pairs)
+            arguments = [Decimal(x) for x in ("0.001", "0.3", "2", "15")]
+            pairs = zip(arguments, map(truth.first_off_disc, arguments), truth.second_off_disc(arguments))
+            errors = [Decimal(truth.c) * (x * x + 1) * (r * t - s * q) - 1 for x, (r, s), (q, t) in pairs]
+            agreement["Wronskian off the disc"] = max(map(abs, errors))
+            sums = zip(truth.neumann_sum(far), truth.second_down(Decimal(12), truth.neumann_sum(Decimal(12)), far))
+            agreement["second kind's sum at 5"] = max(abs(found / true - 1) for found, true in sums)
         for name, error in agreement.items():
             least[name] = min(least[name], -float(abs(error).log10()) if error else 99)
     print(f"The reference against itself in {len(modes)} modes: ", end="")
@@ -519,7 +604,7 @@ def print_checks(count):
     for a in answers_of(random_modes(count * 3 // 4, 60, 40, 60, ("oblate",))):
         if a.four and finite(a.four) and finite(a.d):
             true = disc_digits(a, a.truth())
-            error = checks.wronskian_error(a.c, a.four[:2], a.four[2:])
+            error = checks.wronskian_error(a.c, 0.0, a.four)
             alone.count(true, checks.digits(error))
             error += checks.recurrence_error(a.kind, a.m, a.n, a.c, a.value, a.d)
             disc.count(true, checks.digits(error))
@@ -529,13 +614,24 @@ def print_checks(count):
         truth = a.truth() if finite(a.d) else None
         for x, pair in zip(OFF_DISC, pairs):
             if truth and pair and finite(pair):
-                true = min(first_kind_digits(a, truth, x, pair))
+                true = min(first_kind_digits(truth, x, pair))
                 first.count(true, checks.digits(checks.first_kind_error(a.m, a.n, a.c, a.value, a.d, x, pair)))
                 parts.count(true, checks.digits(checks.first_kind_cancellation(a.m, x, pair)))
+    both, without = Tally("client, both kinds, each x"), Tally("Wronskian and these parts")
+    for a, fours in zip(answers, both_kinds(answers, SECOND_OFF_DISC)):
+        if not finite(a.d):
+            continue
+        truth = a.truth()
+        for x, four, second in zip(SECOND_OFF_DISC, fours, second_kind_digits(truth, SECOND_OFF_DISC, fours)):
+            if four and finite(four):
+                true = min(*first_kind_digits(truth, x, four[:2]), *second)
+                error = lambda d: checks.radial_error(a.m, a.n, a.c, a.value, d, x, four, a.four)
+                both.count(true, checks.digits(error(a.d)))
+                without.count(true, checks.digits(error(None)))
     print("### The checks\n")
     print(f"| check | fewer than {ENOUGH} digits | of these silent | {ENOUGH} or more | of these warned |")
     print("|---|---|---|---|---|")
-    for tally in (points, modes, simple, zero, disc, alone, first, parts):
+    for tally in (points, modes, simple, zero, disc, alone, first, parts, both, without):
         print(tally.row())
     print()
 
@@ -549,6 +645,10 @@ def main(words):
     print_first_kind((1e-7, 1.0, 20.0) if quick else PARAMETERS)
     print_first_kind_least((1.0,) if quick else (1e-3, 0.1, 1.0, 5.0, 10.0, 15.0, 20.0, 30.0, 40.0), 12, 20)
     print_near_disc((0, 1, 3, 12) if quick else (0, 1, 2, 3, 5, 8, 12, 20, 30, 50, 80), 1.0)
+    print_second_kind((1e-3, 1.0, 20.0) if quick else SECOND_PARAMETERS)
+    for largest_offset in (10,) if quick else (10, 30):
+        parameters = (1.0,) if quick else (1e-4, 1e-3, 0.01, 0.1, 1.0, 5.0, 10.0, 15.0, 20.0, 40.0)
+        print_second_kind_least(parameters, 12, largest_offset)
     print_near_zero([(0, 1), (1, 1), (2, 6), (10, 12)])
     print_zero_pivots(400 if quick else 4000)
     print_dlmf((1.0, 20.0) if quick else (*PARAMETERS[3:], 200.0, 280.0), (0, 1, 5, 20, 80), (0, 1, 2, 5, 10))

@@ -1,15 +1,17 @@
 """Spheroidal functions in high precision, as the accuracy test's reference.
 
 An eigenvalue of the tridiagonal matrix, its vector d in Flammer's normalisation, the angular function
-as the sum of d over associated Legendre functions without the Condon-Shortley sign, both oblate radial
-functions on the disc, and the first of them off it. All in decimal floating point, with as many digits as the sums lose and
-some 60 more.
+as the sum of d over associated Legendre functions without the Condon-Shortley sign, and both oblate
+radial functions on the disc and off it. All in decimal floating point, with as many digits as the sums
+lose and some 60 more.
 """
 from decimal import Decimal, getcontext
 from functools import lru_cache
 from math import factorial, prod
 
 SIGNS = {"prolate": 1, "oblate": -1}
+# From here on the sum over spherical Neumann functions gives the second kind.
+FAR = 12
 
 
 def set_precision(n, c):
@@ -208,20 +210,41 @@ class Mode:
         return root * pair[0], root * (pair[1] + self.m * x / (1 + x * x) * pair[0])
 
     def second_on_disc(self):
-        """The second one and its derivative: its sum over spherical Neumann functions at 12, from
-        where Taylor series of the differential equation go down to the disc."""
-        m, c, x = self.m, Decimal(self.c), Decimal(12)
-        factors = self.factors()
+        """The second one and its derivative on the disc."""
+        return self.second_down(Decimal(FAR), self.neumann_sum(Decimal(FAR)), Decimal(0))
+
+    def second_off_disc(self, arguments):
+        """The second one and its derivative at each of the arguments above zero: from FAR on its sum over
+        spherical Neumann functions, below by Taylor series of the differential equation from there down."""
+        found, at, pair = {}, Decimal(FAR), None
+        for x in sorted(arguments, reverse=True):
+            if x >= FAR:
+                u, du = self.neumann_sum(x)
+            else:
+                pair = self.second_down(at, pair or self.neumann_sum(at), x)
+                at, (u, du) = x, pair
+            root = (1 + x * x).sqrt() ** self.m
+            found[x] = root * u, root * (du + self.m * x / (1 + x * x) * u)
+        return [found[x] for x in arguments]
+
+    def neumann_sum(self, x):
+        """u and its derivative at x, which is well above 1: of the second kind (1 + x^2)^(m/2) u."""
+        m, c, factors = self.m, Decimal(self.c), self.factors()
         y, slopes = neumann(c * x, m + 2 * len(factors) + 1)
         signs = [(-1) ** (self.index + i) for i in range(len(factors))]
         at = [m + 2 * i + self.parity for i in range(len(factors))]
         u = sum(s * f * y[l] for s, f, l in zip(signs, factors, at)) / sum(factors) / x**m
         du = c * sum(s * f * slopes[l] for s, f, l in zip(signs, factors, at)) / sum(factors) / x**m - m * u / x
-        while x > 0:
-            step = min(x, (1 + x * x).sqrt() / 2, 20 / c)
-            u, du = self.stepped(x, -step, u, du)
-            x -= step
         return u, du
+
+    def second_down(self, x, pair, end):
+        """u and its derivative from x down to the end. Where they do not oscillate they grow on the way,
+        and so errors lose weight."""
+        while x > end:
+            most = min((1 + x * x).sqrt() / 2, 20 / Decimal(self.c))
+            after = max(end, x - most)
+            pair, x = self.stepped(x, after - x, *pair), after
+        return pair
 
     def stepped(self, x, step, u, du):
         """From x to x + step by the Taylor series of (1 + x^2) u'' + 2 (m + 1) x u' + q u = 0, with
