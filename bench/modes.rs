@@ -16,6 +16,8 @@ const ROUND: f64 = 0.005;
 
 const ANGULAR_AT: [f64; 3] = [0.3, 0.9, 1.0];
 const FIRST_KIND_AT: [f64; 3] = [0.1, 1.0, 10.0];
+/// By `rmn2so` at the first, by either at the second, by `rmn2l` at the last, if not for the largest.
+const RADIAL_AT: [f64; 3] = [0.01, 1.0, 10.0];
 
 #[derive(Clone, Copy, Debug)]
 enum Size {
@@ -75,7 +77,7 @@ const DISC: [Mode; 7] = [
     mode(Largest, Kind::Oblate, 170, 175, 1.0),
 ];
 
-/// Of the first kind off the disc, where 2N + m is at most 251 and c x at most 200.
+/// Of radial functions off the disc, where 2N + m is at most 251 and c x at most 200.
 const OFF_DISC: [Mode; 5] = [
     mode(Smallest, Kind::Oblate, 0, 0, 1.0),
     mode(Small, Kind::Oblate, 0, 5, 5.0),
@@ -223,7 +225,8 @@ fn main() {
             Middle => Some(5.0),
             Largest => Some(20.0),
         };
-        let rust = answer::rswfo;
+        // At x = 0 the text has no power or elementary function whose last bits could be others.
+        let rust = |record: &Record| answer::both_kinds(Build::Unaltered, record);
         table.line(
             "radial",
             mode,
@@ -251,6 +254,27 @@ fn main() {
                 None,
                 &records,
                 library::first_kind,
+                rust,
+                served,
+            );
+        }
+    }
+    for mode in &OFF_DISC {
+        let records = mode.records();
+        for x in RADIAL_AT {
+            let records: Vec<Record> = records
+                .iter()
+                .map(|record| Record { x, ..*record })
+                .collect();
+            // As for the first kind.
+            let rust = |record: &Record| answer::both_kinds(Build::Unaltered, record);
+            let served = |record: &Record| answer::both_kinds(Build::PowerRule, record);
+            table.line(
+                &format!("radial at {x}"),
+                mode,
+                None,
+                &records,
+                library::radial,
                 rust,
                 served,
             );

@@ -10,7 +10,7 @@ use std::hint::black_box;
 
 use library::{
     routines_aswfa, routines_cbk, routines_kmn, routines_msta1, routines_msta2, routines_qstar,
-    routines_sckb, routines_sdmn, routines_sphj,
+    routines_sckb, routines_sdmn, routines_sphj, routines_sphy,
 };
 use measure::{Measured, seconds, short, time};
 use oracle::answer::{self, Build};
@@ -149,8 +149,8 @@ fn report_disc(m: u16, n: u16, c: f64, times: usize) {
     );
 }
 
-/// The spherical Bessel functions of the first kind off the disc, and the two searches for an order
-/// that they begin with. The unaltered Rust, with its own sine, cosine and logarithm.
+/// The spherical Bessel functions off the disc, and the two searches for an order that those of the
+/// first kind begin with. The unaltered Rust, with its own sine, cosine and logarithm.
 fn report_bessel(m: u16, n: u16, c: f64, x: f64, times: usize) {
     let (z, highest) = (c * x, highest_order(m, n, c));
     let order = highest as u32;
@@ -185,6 +185,17 @@ fn report_bessel(m: u16, n: u16, c: f64, x: f64, times: usize) {
         },
         || {
             black_box(answer::sphj(Build::Unaltered, black_box(z), highest));
+        },
+    );
+    compare(
+        "sphy",
+        times,
+        || {
+            let (sy, dy) = (black_box(&mut sj), black_box(&mut dj));
+            black_box(routines_sphy(black_box(z), order, sy, dy));
+        },
+        || {
+            black_box(answer::sphy(Build::Unaltered, black_box(z), highest));
         },
     );
 }

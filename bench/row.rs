@@ -1,4 +1,4 @@
-//! What `rows.rs` hands out and `before.rs` compares: one row of one build of the library.
+//! What `rows.rs` hands out and `before.rs` compares: answers of one build of the library.
 
 pub const PLACES: usize = 200;
 
@@ -28,3 +28,8 @@ impl Row {
 /// The oblate row, or the prolate one, in one form, with the largest allowance of 16 bits; whether it
 /// was accepted.
 pub type RowFunction = extern "C" fn(oblate: bool, m: u16, n: u16, c: f64, row: &mut Row) -> bool;
+
+/// Radial functions of a mode at x, by their bits, both kinds or the first and zeros; whether they were
+/// accepted.
+pub type RadialFunction =
+    extern "C" fn(m: u16, n: u16, c: f64, cv: f64, x: f64, places: &mut [u64; 4]) -> bool;

@@ -1,13 +1,14 @@
-//! The rows of one checkout, by its own wrapper, behind a function that is the same for all: so two
-//! builds can be loaded into one process, also where their interfaces differ.
+//! Rows and radial functions of one checkout, by its own wrapper, behind functions that are the same for
+//! all: so two builds can be loaded into one process, also where their interfaces differ.
 
 mod row;
 
-use row::{PLACES, Row, RowFunction};
+use row::{PLACES, RadialFunction, Row, RowFunction};
 use spheroidal::{Kind, Mode};
 
 /// Holds the functions to the type that `before.rs` calls them by.
 const _: [RowFunction; 2] = [bench_row, bench_dlmf_row];
+const _: [RadialFunction; 2] = [bench_radial, bench_first_kind];
 
 fn kind(oblate: bool) -> Kind {
     if oblate { Kind::Oblate } else { Kind::Prolate }
@@ -44,5 +45,43 @@ pub extern "C" fn bench_dlmf_row(oblate: bool, m: u16, n: u16, c: f64, row: &mut
     let mode = Mode { m, n, c };
     let answer = spheroidal::dlmf_row_into(kind(oblate), mode, u16::MAX.into(), &mut values);
     row.values = values.map(f64::to_bits);
+    answer.is_ok()
+}
+
+#[unsafe(no_mangle)]
+pub extern "C" fn bench_radial(
+    m: u16,
+    n: u16,
+    c: f64,
+    cv: f64,
+    x: f64,
+    places: &mut [u64; 4],
+) -> bool {
+    let answer = spheroidal::radial(Mode { m, n, c }, cv, x);
+    if let Ok(spheroidal::Radial { first, second }) = answer {
+        let numbers = [
+            first.value,
+            first.derivative,
+            second.value,
+            second.derivative,
+        ];
+        *places = numbers.map(f64::to_bits);
+    }
+    answer.is_ok()
+}
+
+#[unsafe(no_mangle)]
+pub extern "C" fn bench_first_kind(
+    m: u16,
+    n: u16,
+    c: f64,
+    cv: f64,
+    x: f64,
+    places: &mut [u64; 4],
+) -> bool {
+    let answer = spheroidal::first_kind(Mode { m, n, c }, cv, x);
+    if let Ok(pair) = answer {
+        *places = [pair.value.to_bits(), pair.derivative.to_bits(), 0, 0];
+    }
     answer.is_ok()
 }

@@ -111,6 +111,13 @@ fn radial(number: usize) -> Record {
     }
 }
 
+fn both_kinds(number: usize) -> Record {
+    Record {
+        operation: 5,
+        ..first_kind(number)
+    }
+}
+
 fn first_kind(number: usize) -> Record {
     Record {
         operation: 8,
@@ -189,4 +196,5 @@ fn main() {
     report("row, small modes", 10_000, row, None);
     report("radial, small modes", 20_000, radial, None);
     report("first kind, small modes", 20_000, first_kind, None);
+    report("radial off the disc", 20_000, both_kinds, None);
 }
