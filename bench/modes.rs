@@ -170,6 +170,36 @@ impl Table {
             verdict,
         );
     }
+
+    /// The lines of a call off the disc, at each of some x. The unaltered text has its own powers and
+    /// elementary functions, whose last bits may be others than ours: it is timed, and the build that
+    /// calls ours is compared.
+    fn off_disc<A: AsRef<[f64]>>(
+        &mut self,
+        call: &str,
+        at: [f64; 3],
+        ours: fn(&Record) -> A,
+        rust: fn(Build, &Record) -> A,
+    ) {
+        for mode in &OFF_DISC {
+            let records = mode.records();
+            for x in at {
+                let records: Vec<Record> = records
+                    .iter()
+                    .map(|record| Record { x, ..*record })
+                    .collect();
+                self.line(
+                    &format!("{call} at {x}"),
+                    mode,
+                    None,
+                    &records,
+                    ours,
+                    |record: &Record| rust(Build::Unaltered, record),
+                    |record: &Record| rust(Build::PowerRule, record),
+                );
+            }
+        }
+    }
 }
 
 fn main() {
@@ -237,48 +267,12 @@ fn main() {
             rust,
         );
     }
-    for mode in &OFF_DISC {
-        let records = mode.records();
-        for x in FIRST_KIND_AT {
-            let records: Vec<Record> = records
-                .iter()
-                .map(|record| Record { x, ..*record })
-                .collect();
-            // The unaltered text has its own powers, sine, cosine and logarithm, whose last bits may
-            // be others than ours: it is timed, and the build that calls ours is compared.
-            let rust = |record: &Record| answer::first_kind(Build::Unaltered, record);
-            let served = |record: &Record| answer::first_kind(Build::PowerRule, record);
-            table.line(
-                &format!("first kind at {x}"),
-                mode,
-                None,
-                &records,
-                library::first_kind,
-                rust,
-                served,
-            );
-        }
-    }
-    for mode in &OFF_DISC {
-        let records = mode.records();
-        for x in RADIAL_AT {
-            let records: Vec<Record> = records
-                .iter()
-                .map(|record| Record { x, ..*record })
-                .collect();
-            // As for the first kind.
-            let rust = |record: &Record| answer::both_kinds(Build::Unaltered, record);
-            let served = |record: &Record| answer::both_kinds(Build::PowerRule, record);
-            table.line(
-                &format!("radial at {x}"),
-                mode,
-                None,
-                &records,
-                library::radial,
-                rust,
-                served,
-            );
-        }
-    }
+    table.off_disc(
+        "first kind",
+        FIRST_KIND_AT,
+        library::first_kind,
+        answer::first_kind,
+    );
+    table.off_disc("radial", RADIAL_AT, library::radial, answer::both_kinds);
     println!("\n{} targets met, {} missed", table.met, table.missed);
 }
