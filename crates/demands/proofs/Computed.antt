@@ -1,6 +1,6 @@
 -- What computing an answer unfolds, routine by routine. A theorem by computation names this list alone.
 use mathlib.Core.Bool.{Bool, true}
-use lib.Ieee.{add, sub, mul, div, neg, lt, le, eq, ofInt, ofBits, toBits, toUnsigned}
+use lib.Ieee.{add, sub, mul, div, neg, lt, le, eq, ofInt, ofBits, toBits, toUnsigned, toSigned}
 use Rattle.arith.specs.Choice.{abs, lesser, greater}
 use Rattle.arith.specs.Powers.{power}
 use Rattle.arith.specs.Root.{sqrt}
@@ -47,7 +47,7 @@ use Rattle.modes.specs.Radial.{radialRefusal, quadrupleOrRefusal, radialOf}
 use Rattle.modes.specs.FirstKind.{pairOrRefusal, firstOf}
 
 unfoldable doubles : Bool
-unfolding add sub mul div neg lt le eq ofInt ofBits toBits toUnsigned abs power sqrt
+unfolding add sub mul div neg lt le eq ofInt ofBits toBits toUnsigned toSigned abs power sqrt
 doubles = true
 
 unfoldable refusals : Bool
@@ -95,7 +95,7 @@ unfolding Arctangents.reaches Arctangents.above Arctangents.below Arctangents.fu
 arctangents = true
 
 unfoldable secondKinds : Bool
-unfolding keptOr Sphy.nearZero Sphy.filled Sphy.lowest Sphy.stepsUp Sphy.recurred Sphy.sy Sphy.dy Sphy.highest Rmn2l.largeOn Rmn2l.lost Rmn2l.rmn2l combined turned Gmn.ends Gmn.slopeTerm Gmn.sumOn Gmn.gmn Kmn.r2Of Kmn.sa0Of Kmn.kmn Qstar.skAt Qstar.sAt Qstar.apUpTo Qstar.productOf Qstar.qs0At Qstar.paritySign Qstar.qstar Cbk.firstIndex Cbk.r1At Cbk.added Cbk.s1From Cbk.rightSides Cbk.rows Cbk.eliminated Cbk.substituted Cbk.cbk arctangents
+unfolding keptOr Sphy.nearZero Sphy.filled Sphy.lowest Sphy.stepsUp Sphy.recurred Sphy.sy Sphy.dy Sphy.highest Rmn2l.largeOn Rmn2l.intX86 Rmn2l.lost Rmn2l.rmn2l combined turned Gmn.ends Gmn.slopeTerm Gmn.sumOn Gmn.gmn Kmn.r2Of Kmn.sa0Of Kmn.kmn Qstar.skAt Qstar.sAt Qstar.apUpTo Qstar.productOf Qstar.qs0At Qstar.paritySign Qstar.qstar Cbk.firstIndex Cbk.r1At Cbk.added Cbk.s1From Cbk.rightSides Cbk.rows Cbk.eliminated Cbk.substituted Cbk.cbk arctangents
 secondKinds = true
 
 unfoldable pub computed : Bool

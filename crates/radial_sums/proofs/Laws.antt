@@ -1,14 +1,18 @@
 -- How the definitions of `rmn1`, `rmn2l` and their sums unfold, in the form in which the proofs of the code meet them. Assumes nothing.
 use Prim.Native.Nat.{ℕ, suc, _+_, _-_, _*_, _/_, _%_, _≤_, _<_}
 use mathlib.Core.Path.{_≡_, refl, sym, _∙_}
-use mathlib.Core.Bool.{Bool, true, false, cond, _||_}
+use mathlib.Core.Bool.{Bool, true, false, cond, _&&_, _||_}
 use mathlib.Core.List.{List}
 use native.Mathlib.Omega.{arith}
 use lib.Dec.{eqb, leb}
-use lib.Ieee.{Float, inf, neg, lt, eq, div, ofBits}
-use Rattle.arith.specs.Double.{_⊕_, _⊖_, _⊗_, _⊘_, at, #0, #1, #1e-14}
+use lib.IntN.{negsuc}
+use lib.Ieee.Casts.{toSigned-in}
+use mir.Syntax.{w32}
+use mir.Val.{SFits}
+use lib.Ieee.{Float, neg, lt, eq}
+use Rattle.arith.specs.Double.{_⊕_, _⊖_, _⊗_, at, bits, #0}
 use Rattle.arith.specs.Choice.{abs}
-use Rattle.logarithms.specs.Functions.{log10}
+use Rattle.arith.specs.Truncation.{truncate}
 use Rattle.bessel.specs.declared.sphj.Orders.{Orders}
 use Rattle.bessel.specs.Sphj.{orders, sj, dj}
 use Rattle.bessel.specs.Sphy.{sy, dy, highest}
@@ -25,7 +29,7 @@ use Rattle.radial_sums.specs.declared.rmn2l.Large.the-variants.{Kept, Lo
 use Rattle.radial_sums.specs.Common.{common}
 use Rattle.radial_sums.specs.BesselSums.{lg, factor, besselOn, besselSum}
 use Rattle.radial_sums.specs.Rmn1.{powersOn, onDisc, joined, offDisc, rmn1}
-use Rattle.radial_sums.specs.Rmn2l.{reached, largeOn, largeSum, lost, rmn2l}
+use Rattle.radial_sums.specs.Rmn2l.{reached, largeOn, largeSum, intX86, lost, rmn2l}
 
 -- ---- a term of the sum of the power coefficients
 module _ (ck : List Float) (left j : ℕ) (sum sw : Float) where
@@ -101,20 +105,14 @@ module _ (df : List Float) (m n : ℕ) (c x : Float) where
 
 -- ---- the second kind off the disc
 
--- 1/0
-infinite : #1 ⊘ #0 ≡ inf false
-unfolding ofBits div
-infinite = refl
-
--- whether digits are lost, by the logarithm l
-module _ (sum eps a l : Float) (ha : a ≡ abs sum) (hl : l ≡ log10 (eps ⊘ a ⊕ #1e-14)) where
-  pub lost-above : lt (neg #1) l ≡ true → lt l (#1 ⊘ #0) ≡ lost sum eps
-  unfolding lost
-  lost-above h = rw (hl, ha, rw (hl, ha) at h, infinite)
-
-  pub lost-below : lt (neg #1) l ≡ false → false ≡ lost sum eps
-  unfolding lost
-  lost-below h = rw (rw (hl, ha) at h)
+-- `int_x86` has 32 bits
+pub int-fits : (x : Float) → SFits w32 (intX86 x)
+unfolding intX86
+int-fits x = go (lt (neg (bits 0x41e0_0000_0020_0000)) x && lt x (bits 0x41e0_0000_0000_0000))
+  where
+    go : (t : Bool) → SFits w32 (cond t (truncate x) (negsuc 2147483647))
+    go true = record { sfits = toSigned-in 31 x }
+    go false = record { sfits = omega arith }
 
 -- s is what is common to both kinds, y and d are the Bessel functions and their derivatives, top is their highest order, f and g are the sums
 module _ (df : List Float) (m n : ℕ) (c x : Float) (s : Common) (y d : List Float) (top : ℕ) (f : Reached) (hs : s ≡ common df m n c) (ht : top ≡ highest (c ⊗ x) (2 * s .nm + m)) (hy : y ≡ sy (c ⊗ x) (2 * s .nm + m)) (hd : d ≡ dy (c ⊗ x) (2 * s .nm + m)) (hf : f ≡ largeSum df y m ((n - m) % 2) ((n - m) / 2) (s .nm) (s .r0) (s .sw)) where

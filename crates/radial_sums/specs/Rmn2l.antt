@@ -3,9 +3,12 @@ use Prim.Native.Nat.{ℕ, zero, suc, _+_, _-_, _*_, _/_, _%_}
 use mathlib.Core.Bool.{Bool, true, false, cond, _&&_, _||_}
 use mathlib.Core.List.{List}
 use lib.Dec.{leb}
-use lib.Ieee.{Float, neg, inf, lt}
-use Rattle.arith.specs.Double.{_⊕_, _⊖_, _⊗_, _⊘_, at, #0, #1, #1e-14}
+use lib.IntN.{ℤ, negsuc}
+use lib.Signed.{ltZ}
+use lib.Ieee.{Float, neg, lt}
+use Rattle.arith.specs.Double.{_⊕_, _⊖_, _⊗_, _⊘_, at, bits, #0, #1e-14}
 use Rattle.arith.specs.Choice.{abs}
+use Rattle.arith.specs.Truncation.{truncate}
 use Rattle.logarithms.specs.Functions.{log10}
 use Rattle.joining.specs.declared.sums.Test.the-variants.{Product}
 use Rattle.joining.specs.Sums.{stops}
@@ -37,9 +40,20 @@ largeOn df bs m ip half (suc left) j r sum sw eps np =
 abbrev pub largeSum : List Float → List Float → ℕ → ℕ → ℕ → ℕ → Float → Float → Reached
 largeSum df bs m ip half nm r0 sw = largeOn df bs m ip half nm 0 r0 #0 sw #0 0
 
--- The source's id above −1. id is the decimal logarithm of what the last term changed, truncated, so that it is above −1 where the logarithm is; of a NaN or infinite one it is the least whole number of 32 bits.
+-- 2 ^ 31 + 1 and 2 ^ 31
+abbrev #2147483649 : Float
+#2147483649 = bits 0x41e0_0000_0020_0000
+
+abbrev #2147483648 : Float
+#2147483648 = bits 0x41e0_0000_0000_0000
+
+-- the source's `int_x86`: x truncated, and the least whole number of 32 bits where x is NaN or beyond them
+unfoldable pub intX86 : Float → ℤ
+intX86 x = cond (lt (neg #2147483649) x && lt x #2147483648) (truncate x) (negsuc 2147483647)
+
+-- digits are lost where the source's id is above −1, the decimal logarithm of what the last term changed
 unfoldable pub lost : Float → Float → Bool
-lost sum eps = let id = log10 (eps ⊘ abs sum ⊕ #1e-14) in lt (neg #1) id && lt id (inf false)
+lost sum eps = ltZ (negsuc 0) (intX86 (log10 (eps ⊘ abs sum ⊕ #1e-14)))
 
 -- ---- the second kind at x. The sum remembered is carried from the sum over the coefficients alone into that of the values, and from there into that of the derivatives
 -- lost where the orders known do not go past that of the last value, or digits of either sum are lost

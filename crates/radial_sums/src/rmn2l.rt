@@ -51,16 +51,26 @@ fn large_sum(
     Reached { sum, sw, eps, np }
 }
 
+// The source's `int_x86`: x truncated, and the least whole number of 32 bits where x is NaN or beyond
+// them.
+fn int_x86(x: f64) -> i32
+    ensures { λ r. ⌜ r ≡ Rmn2l.intX86 x ⌝ }
+{
+    if -2147483649.0 < x {
+        if x < 2147483648.0 {
+            return arith::truncate(x);
+        }
+        return -2147483648;
+    }
+    -2147483648
+}
+
 // Whether the last term changed a sum by more than a tenth. Where that is no number the source keeps the
 // sum.
 fn lost(sum: f64, eps: f64) -> bool
     ensures { λ r. ⌜ r ≡ Rmn2l.lost sum eps ⌝ }
 {
-    let id = elementary::log10(eps / arith::abs(sum) + 1e-14);
-    if -1.0 < id {
-        return id < 1.0 / 0.0;
-    }
-    false
+    -1 < int_x86(elementary::log10(eps / arith::abs(sum) + 1e-14))
 }
 
 // The second kind, or that too many digits were lost or too few orders known.
