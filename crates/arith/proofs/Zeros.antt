@@ -7,7 +7,7 @@ use mathlib.Core.Bool.{Bool, true, false, _&&_}
 use borrow.Author.Tests.{eqb-true, le-ltb}
 use lib.Dec.{eqb}
 use lib.IntN.{ℤ}
-use lib.Ieee.{Float, nan, inf, fin, up, down, lt, eq, ofBits, below}
+use lib.Ieee.{Float, nan, inf, fin, up, down, lt, eq, ofBits}
 use Rattle.arith.specs.Double.{#0}
 use Rattle.arith.proofs.Flags.{not-taken}
 

@@ -1,6 +1,6 @@
 -- Each answer of the table is as the definitions give it, by computation, one declaration for each. Assumes nothing.
 use mathlib.Core.Path.{_≡_, refl}
-use mathlib.Core.List.{List, [], _∷_, map}
+use mathlib.Core.List.{List, _∷_, map}
 use Rattle.arith.specs.Double.{bits}
 use Rattle.requests.specs.declared.answers.Answer.{Answer}
 use Rattle.modes.specs.Radial.{radialOf}

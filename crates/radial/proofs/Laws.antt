@@ -21,11 +21,10 @@ use Rattle.radial_sums.specs.Rmn1.{powersSum, onDisc, offDisc, rmn1}
 use Rattle.radial_sums.specs.Rmn2l.{rmn2l}
 use Rattle.radial_sums.proofs.Laws.{at-zero, off-zero}
 use Rattle.radial.specs.declared.rswfo.Radial.{Radial}
-use Rattle.radial.specs.declared.rswfo.Kinds.{Kinds}
 use Rattle.radial.specs.declared.rswfo.Kinds.the-variants.{Both, Neither}
 use Rattle.radial.specs.Gmn.{gmn}
 use Rattle.radial.specs.Rmn2so.{combined, turned, rmn2so}
-use Rattle.radial.specs.Rswfo.{coefficients, keptOr, bySo, secondKind, withSecond, rswfo, firstKind}
+use Rattle.radial.specs.Rswfo.{keptOr, bySo, secondKind, withSecond}
 
 -- ---- the second kind from the disc's coefficients
 module _ (df ck : List Float) (m n : ℕ) (c cv x : Float) (r1 : Pair) (a : Float) (e : a ≡ abs (at df 0)) where

@@ -1,6 +1,6 @@
 // The source's `rswfo`: with kf = 3 both radial kinds at x, and with kf = 1 the first.
 ghost use mathlib.Core.Path.{_≡_};
-ghost use mathlib.Core.Bool.{true, false};
+ghost use mathlib.Core.Bool.{false};
 ghost use Prim.Native.Nat.{_+_, _-_, _*_, _<_, _≤_};
 ghost use lib.Ieee.{eq};
 ghost use Rattle.arith.specs.Double.{#0};
