@@ -1,6 +1,6 @@
-//! Times rows and radial functions of two builds of the library side by side: another checkout's, which is called
-//! before, and this one's, after. Each is a shared library made of `rows.rs`, and both are loaded into
-//! one process; their answers are held against each other bit for bit.
+//! Times rows and radial functions of two builds of the library side by side: another checkout's, which
+//! is called before, and this one's, after. Each is a shared library made of `rows.rs`, and both are
+//! loaded into one process; their answers are held against each other bit for bit.
 
 #[allow(dead_code)]
 mod measure;
@@ -196,7 +196,8 @@ impl Radial {
                 build.radial
             };
             let mut numbers = [0; 4];
-            let accepted = function(m, n, c, cv, self.x, &mut numbers);
+            let x = self.x;
+            let accepted = function(&row::Radial { m, n, c, cv, x }, &mut numbers);
             assert!(accepted, "{} is refused", self.name());
             numbers
         };

@@ -29,7 +29,16 @@ impl Row {
 /// was accepted.
 pub type RowFunction = extern "C" fn(oblate: bool, m: u16, n: u16, c: f64, row: &mut Row) -> bool;
 
+/// What is asked of a radial function.
+#[repr(C)]
+pub struct Radial {
+    pub m: u16,
+    pub n: u16,
+    pub c: f64,
+    pub cv: f64,
+    pub x: f64,
+}
+
 /// Radial functions of a mode at x, by their bits, both kinds or the first and zeros; whether they were
 /// accepted.
-pub type RadialFunction =
-    extern "C" fn(m: u16, n: u16, c: f64, cv: f64, x: f64, places: &mut [u64; 4]) -> bool;
+pub type RadialFunction = extern "C" fn(asked: &Radial, places: &mut [u64; 4]) -> bool;

@@ -3,7 +3,7 @@
 
 mod row;
 
-use row::{PLACES, RadialFunction, Row, RowFunction};
+use row::{PLACES, Radial, RadialFunction, Row, RowFunction};
 use spheroidal::{Kind, Mode};
 
 /// Holds the functions to the type that `before.rs` calls them by.
@@ -49,14 +49,8 @@ pub extern "C" fn bench_dlmf_row(oblate: bool, m: u16, n: u16, c: f64, row: &mut
 }
 
 #[unsafe(no_mangle)]
-pub extern "C" fn bench_radial(
-    m: u16,
-    n: u16,
-    c: f64,
-    cv: f64,
-    x: f64,
-    places: &mut [u64; 4],
-) -> bool {
+pub extern "C" fn bench_radial(asked: &Radial, places: &mut [u64; 4]) -> bool {
+    let &Radial { m, n, c, cv, x } = asked;
     let answer = spheroidal::radial(Mode { m, n, c }, cv, x);
     if let Ok(spheroidal::Radial { first, second }) = answer {
         let numbers = [
@@ -71,17 +65,11 @@ pub extern "C" fn bench_radial(
 }
 
 #[unsafe(no_mangle)]
-pub extern "C" fn bench_first_kind(
-    m: u16,
-    n: u16,
-    c: f64,
-    cv: f64,
-    x: f64,
-    places: &mut [u64; 4],
-) -> bool {
+pub extern "C" fn bench_first_kind(asked: &Radial, places: &mut [u64; 4]) -> bool {
+    let &Radial { m, n, c, cv, x } = asked;
     let answer = spheroidal::first_kind(Mode { m, n, c }, cv, x);
     if let Ok(pair) = answer {
-        *places = [pair.value.to_bits(), pair.derivative.to_bits(), 0, 0];
+        *places = [pair.value, pair.derivative, 0.0, 0.0].map(f64::to_bits);
     }
     answer.is_ok()
 }
