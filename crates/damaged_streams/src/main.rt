@@ -1,6 +1,7 @@
 // A test program: answers many streams, damaged ones among them. Standard input has them one after
 // another, each after its length in two bytes, little-endian. Before a stream's lines comes a line
-// `S` with its number. `tests/replay/run` writes the streams and the oracle's lines.
+// `S` with its number. Each stream arrives byte by byte, so that every record is seen cut at every
+// byte. `tests/replay/run` writes the streams and the oracle's lines.
 ghost use mathlib.Core.Path.{_≡_};
 ghost use Prim.Native.Nat.{_+_, _<_, _≤_};
 ghost use lib.ListN.{length};
@@ -28,8 +29,10 @@ fn answer_stream(input: &[u8], out: &mut [u8])
 {
     let mut index: u64 = 0;
     let mut at: usize = 0;
-    while at < input.len() {
-        let progress = stream::answer_some(input, at, index, out);
+    let mut arrived: usize = 0;
+    while arrived < input.len() {
+        arrived = arrived + 1;
+        let progress = stream::answer_some(&input[..arrived], at, index, out);
         io::write_all(STDOUT_FILENO, &out[..progress.used]);
         if progress.refused {
             return;
@@ -37,6 +40,8 @@ fn answer_stream(input: &[u8], out: &mut [u8])
         index = progress.index;
         at = progress.at;
     }
+    let used = stream::answer_end(input, at, index, out);
+    io::write_all(STDOUT_FILENO, &out[..used]);
 }
 
 // Ends at a stream that is not whole.

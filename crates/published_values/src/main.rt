@@ -30,7 +30,7 @@ fn place_of(mode: Mode) -> usize
 // The characteristic value of the mode of degree n, or 0 where the row is refused.
 fn value_of(kind: Kind, mode: Mode) -> f64 {
     let mut values = [0.0; 200];
-    let mut steps: [u16; 200] = [0; 200];
+    let mut steps: [u32; 200] = [0; 200];
     let mut lowers = [0.0; 200];
     let mut uppers = [0.0; 200];
     let mut substituted: [u8; 200] = [0; 200];
@@ -115,10 +115,10 @@ fn compare_all(input: &[u8])
     let mut number: u64 = 0;
     let mut at: usize = 0;
     while 66 <= input.len() - at {
-        let Next::Whole(request) = records::next_record(input, at) else {
+        let Next::Whole(request, _) = records::next_record(input, at) else {
             return;
         };
-        let Next::Whole(published) = records::next_record(input, at + 33) else {
+        let Next::Whole(published, _) = records::next_record(input, at + 33) else {
             return;
         };
         let ours = answer_to(request, published.operation);

@@ -1,6 +1,7 @@
 -- Laws of the definitions. Assumes nothing.
 use mathlib.Core.Path.{_≡_, refl, sym, ap, _∙_}
 use mathlib.Core.Logic.{_⊎_, inl, inr, ⊎-elim}
+use mathlib.Core.Bool.{Bool, true, false, cond}
 use mathlib.Core.List.{List, [], _∷_, _++_, append-assoc}
 use Prim.Native.Nat.{ℕ, zero, suc, _+_, _-_, _*_, _/_, _%_, _^_, _≤_, _<_}
 use native.Mathlib.Nat.{add-assoc, add-suc, pow-suc}
@@ -10,7 +11,7 @@ use native.Mathlib.Omega.{arith}
 use borrow.Author.Tests.{lt-ltb, le-ltb}
 use lib.ListN.{length, take, drop, set, length-append, length-drop, length-set}
 use lib.Seq.{length-take-le, take-at, drop-at, drop-drop, take-set-le, drop-set-lt, getD-set-same, drop-cons, set-split, append-snoc}
-use Rattle.records.specs.Record.{numberAt}
+use Rattle.records.specs.Record.{numberAt, marked, widthAt}
 use lib.Ieee.{Float}
 use Rattle.records.specs.Text.{Put, digit, decimalIn, decimal, hexadecimal}
 use Rattle.records.specs.Lines.{vLine, zLine, dLine, pairLine, fLine, rLine}
@@ -23,6 +24,16 @@ numberAt-4 input at = simp add-assoc (omega arith)
 pub numberAt-8 : (input : List ℕ) (at : ℕ) → numberAt input at 8 ≡ numberAt input at 4 + 0x1_0000_0000 * numberAt input (at + 4) 4
 unfolding numberAt
 numberAt-8 input at = simp add-assoc (omega arith)
+
+-- ---- marks
+widths : (old new : Bool) (w : ℕ) → w ≡ cond old 2 (cond new 4 0) → (w ≡ 0 → ⊥) → (w ≡ 2) ⊎ (w ≡ 4)
+widths true new w e h = inl e
+widths false true w e h = inr e
+widths false false w e h = absurd (h e)
+
+-- a known mark's width is 2 or 4
+pub width-known : {w : ℕ} (input : List ℕ) (at : ℕ) → w ≡ widthAt input at → (w ≡ 0 → ⊥) → (w ≡ 2) ⊎ (w ≡ 4)
+width-known {w} input at = widths (marked 0x57 input at) (marked 0x56 input at) w
 
 -- ---- text in a buffer
 module _ {before after : List ℕ} {from to : ℕ} {text : List ℕ} (p : Put before after from to text) where

@@ -8,7 +8,7 @@ use lib.Ieee.{Float, nan, ofBits, toBits}
 use lib.ListN.{take, replicate}
 use Rattle.arith.specs.Double.{bits, #0, #1, #2}
 use Rattle.records.specs.declared.record.Next.{Next}
-use Rattle.records.specs.declared.record.Next.the-variants.{Whole, Refused, End}
+use Rattle.records.specs.declared.record.Next.the-variants.{Whole, Unmarked, Cut, End}
 use Rattle.records.specs.Record.{numberAt, nextAt}
 use Rattle.records.specs.Text.{ascii, digit, decimalIn, hexadecimal}
 use Rattle.records.specs.Lines.{vLine, zLine, dLine, pairLine, rLine}
@@ -28,21 +28,35 @@ third =
     0x53 ∷ 0x57 ∷ 4 ∷ 0x02 ∷ 0x01 ∷ 0x04 ∷ 0x03 ∷ 0xfe ∷ 0xff ∷
     (replicate 6 0 ++ 0xf0 ∷ 0x3f ∷ 0x01 ∷ replicate 5 0 ++ 0xf8 ∷ 0xff ∷ replicate 7 0 ++ 0x80 ∷ [])
 
+-- the same as the new kind: the other mark, and two more bytes of allowance
+abbrev pub fourth : List ℕ
+fourth =
+    0x53 ∷ 0x56 ∷ 4 ∷ 0x02 ∷ 0x01 ∷ 0x04 ∷ 0x03 ∷ 0xfe ∷ 0xff ∷ 0x00 ∷ 0x80 ∷
+    (replicate 6 0 ++ 0xf0 ∷ 0x3f ∷ 0x01 ∷ replicate 5 0 ++ 0xf8 ∷ 0xff ∷ replicate 7 0 ++ 0x80 ∷ [])
+
 -- An input, an index, and what the input has from there on.
 abbrev pub inputs : List (List ℕ × ℕ × Next)
 inputs =
-    (first ++ second, 0, Whole (record { operation = 1; m = 0; n = 2; allowance = 0; c = #0; cv = #0; x = #0 })) ∷
-    (first ++ second, 33, Whole (record { operation = 3; m = 0; n = 0; allowance = 0; c = #0; cv = #0; x = #0 })) ∷
-    (third, 0, Whole (record { operation = 4; m = 0x0102; n = 0x0304; allowance = 0xfffe; c = #1; cv = nan; x = bits 0x8000_0000_0000_0000 })) ∷
+    (first ++ second, 0, Whole (record { operation = 1; m = 0; n = 2; allowance = 0; c = #0; cv = #0; x = #0 }) 33) ∷
+    (first ++ second, 33, Whole (record { operation = 3; m = 0; n = 0; allowance = 0; c = #0; cv = #0; x = #0 }) 33) ∷
+    (third ++ fourth, 0, Whole (record { operation = 4; m = 0x0102; n = 0x0304; allowance = 0xfffe; c = #1; cv = nan; x = bits 0x8000_0000_0000_0000 }) 33) ∷
+    (third ++ fourth, 33, Whole (record { operation = 4; m = 0x0102; n = 0x0304; allowance = 0x8000fffe; c = #1; cv = nan; x = bits 0x8000_0000_0000_0000 }) 35) ∷
     -- all has been read
     (first ++ second, 66, End) ∷
     ([], 0, End) ∷
-    -- a byte is missing; only one byte is there, and no mark starts with it
-    (first ++ take 32 second, 33, Refused 1) ∷
-    (0x57 ∷ [], 0, Refused 1) ∷
-    -- the mark turned round; one byte of it alone
-    (0x57 ∷ 0x53 ∷ replicate 31 0, 0, Refused 2) ∷
-    (0x53 ∷ replicate 32 0, 0, Refused 2) ∷
+    -- only one byte is there: a mark's first, and one that starts no mark
+    (0x53 ∷ [], 0, Cut) ∷
+    (0x57 ∷ [], 0, Cut) ∷
+    -- one byte, or all after the mark, is missing
+    (first ++ take 32 second, 33, Cut) ∷
+    (0x53 ∷ 0x57 ∷ [], 0, Cut) ∷
+    -- a new record needs two bytes more than an old one
+    (take 34 fourth, 0, Cut) ∷
+    (take 33 fourth, 0, Cut) ∷
+    -- the mark turned round; one byte of it alone; neither mark and nothing behind it
+    (0x57 ∷ 0x53 ∷ replicate 31 0, 0, Unmarked) ∷
+    (0x53 ∷ replicate 32 0, 0, Unmarked) ∷
+    (0x53 ∷ 0x58 ∷ [], 0, Unmarked) ∷
     []
 
 pub inputs-right : map (λ (row : List ℕ × ℕ × Next). nextAt (row .0) (row .1)) inputs ≡ map (λ (row : List ℕ × ℕ × Next). row .2) inputs
@@ -62,7 +76,7 @@ lines =
     (vLine 0 1 0 #2 #2 #2, "V 0 1 0 4000000000000000 4000000000000000 4000000000000000\n") ∷
     (vLine 0 2 0 six six six, "V 0 2 0 4018000000000000 4018000000000000 4018000000000000\n") ∷
     -- each word another
-    (vLine 10 199 65535 #2 #1 six, "V 10 199 65535 4000000000000000 3ff0000000000000 4018000000000000\n") ∷
+    (vLine 10 199 4294967295 #2 #1 six, "V 10 199 4294967295 4000000000000000 3ff0000000000000 4018000000000000\n") ∷
     (zLine 0 1 0, "Z 0 1 0\n") ∷
     (zLine 10 199 1, "Z 10 199 1\n") ∷
     -- the root of 2, and a NaN

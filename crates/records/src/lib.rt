@@ -10,7 +10,7 @@ pub use line::pair_line;
 pub use line::r_line;
 pub use line::v_line;
 pub use line::z_line;
-pub use record::LENGTH;
+pub use record::LONGEST;
 pub use record::Next;
 pub use record::Record;
 pub use record::next_record;

@@ -55,14 +55,14 @@ pub fn v_line(
     at: usize,
     index: u64,
     mode: u16,
-    steps: u16,
+    steps: u32,
     value: f64,
     lower: f64,
     upper: f64,
 ) -> usize
-    requires { ⌜ at + 86 ≤ length (now out) ⌝ }
+    requires { ⌜ at + 91 ≤ length (now out) ⌝ }
     ensures { λ r. ⌜ Put (now (out .entry)) (now (out .exit)) at r (vLine index mode steps value lower upper) ⌝ }
-    ensures { λ r. ⌜ r ≤ at + 86 ⌝ }
+    ensures { λ r. ⌜ r ≤ at + 91 ⌝ }
 {
     let a = start(out, at, b'V', index);
     let b = number(out, a, mode as u64);

@@ -15,7 +15,7 @@ fn zero_row(
     m: u32,
     n: usize,
     values: &mut [f64],
-    steps: &mut [u16],
+    steps: &mut [u32],
     lowers: &mut [f64],
     uppers: &mut [f64],
     substituted: &mut [u8],
@@ -41,9 +41,9 @@ fn zero_row(
 fn row_in(
     kind: Kind,
     mode: Mode,
-    allowance: u16,
+    allowance: u32,
     values: &mut [f64],
-    steps: &mut [u16],
+    steps: &mut [u32],
     lowers: &mut [f64],
     uppers: &mut [f64],
     substituted: &mut [u8],
@@ -88,9 +88,9 @@ fn row_in(
 fn row_number(
     kind: Kind,
     mode: Mode,
-    allowance: u16,
+    allowance: u32,
     values: &mut [f64],
-    steps: &mut [u16],
+    steps: &mut [u32],
     lowers: &mut [f64],
     uppers: &mut [f64],
     substituted: &mut [u8],
@@ -136,9 +136,9 @@ fn row_number(
 pub fn row(
     kind: Kind,
     mode: Mode,
-    allowance: u16,
+    allowance: u32,
     values: &mut [f64],
-    steps: &mut [u16],
+    steps: &mut [u32],
     lowers: &mut [f64],
     uppers: &mut [f64],
     substituted: &mut [u8],
@@ -169,7 +169,7 @@ pub fn zero_flags() -> Flags
 }
 
 // Room for the step numbers of the longest row.
-pub type Steps = [u16; 200];
+pub type Steps = [u32; 200];
 
 pub fn zero_steps() -> Steps
     ensures { λ r. ⌜ r ≡ replicate 200 0 ⌝ }
@@ -190,7 +190,7 @@ fn lessen(values: &[f64; 200], gamma_squared: f64, n: usize, out: &mut [f64])
 }
 
 // The refusal's number, or 0 with the slice filled.
-fn dlmf_number(kind: Kind, mode: Mode, allowance: u16, out: &mut [f64]) -> u8
+fn dlmf_number(kind: Kind, mode: Mode, allowance: u32, out: &mut [f64]) -> u8
     ensures { λ r. ⌜ answer r (now (out .exit)) ≡ dlmfOf kind mode allowance (now (out .entry)) ⌝ }
 {
     let refused = mode.row_refusal();
@@ -225,7 +225,7 @@ fn dlmf_number(kind: Kind, mode: Mode, allowance: u16, out: &mut [f64]) -> u8
 
 // The row in DLMF's form: each value less gamma squared, which is c * c for prolate modes and -c * c for
 // oblate ones. Refusals 4, 5, 6, 9 and 10.
-pub fn dlmf_row(kind: Kind, mode: Mode, allowance: u16, values: &mut [f64]) -> SliceAnswer
+pub fn dlmf_row(kind: Kind, mode: Mode, allowance: u32, values: &mut [f64]) -> SliceAnswer
     ensures { λ r. ⌜ record { answer = r; after = now (values .exit) } ≡ outcome (dlmfOf kind mode allowance (now (values .entry))) ⌝ }
 {
     requests::slice_answer(dlmf_number(kind, mode, allowance, values))

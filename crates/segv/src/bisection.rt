@@ -12,7 +12,7 @@ pub struct Bracket {
     pub value: f64,
     pub lower: f64,
     pub upper: f64,
-    pub steps: u16,
+    pub steps: u32,
     // Whether 1e-30 was put in for a zero pivot in a count made for this value.
     pub substituted: bool,
 }
@@ -26,7 +26,7 @@ pub enum Search {
 impl Bracket {
     // The midpoint becomes the value, and the step is counted.
     pub(crate) fn with_midpoint(self) -> Bracket
-        requires { ⌜ self .steps < 65535 ⌝ }
+        requires { ⌜ self .steps < 4294967295 ⌝ }
         ensures { λ r. ⌜ r ≡ Bisection.withMidpoint self ⌝ }
     {
         Bracket {
@@ -180,7 +180,7 @@ pub(crate) fn bisect(
     entries: usize,
     places: usize,
     place: usize,
-    allowance: u16,
+    allowance: u32,
     start: Bracket,
     uppers: &mut [f64; 100],
     lowers: &mut [f64; 100],

@@ -79,7 +79,7 @@ fn bisect_family(
     e: &[f64; 300],
     entries: usize,
     places: usize,
-    allowance: u16,
+    allowance: u32,
     bounds: sturm::Bounds,
 ) -> Family
     requires { ⌜ (entries ≤ 300) × (places ≤ 100) ⌝ }
@@ -126,7 +126,7 @@ pub(crate) fn family_of(
     cs: f64,
     entries: u32,
     places: usize,
-    allowance: u16,
+    allowance: u32,
 ) -> Family
     requires { ⌜ (m < 1000) × (parity < 2) × (0 < entries) × (entries ≤ 300) × (places ≤ 100) ⌝ }
     ensures { λ r. ⌜ r ≡ Families.familyOf m parity cs entries places allowance ⌝ }

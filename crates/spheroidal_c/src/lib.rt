@@ -29,9 +29,9 @@ fn number(answer: SliceAnswer) -> u8
 fn row(
     kind: Kind,
     mode: Mode,
-    allowance: u16,
+    allowance: u32,
     values: &mut [f64],
-    steps: &mut [u16],
+    steps: &mut [u32],
     lowers: &mut [f64],
     uppers: &mut [f64],
     substituted: &mut [u8],
@@ -51,7 +51,7 @@ fn row(
     ))
 }
 
-fn dlmf_row(kind: Kind, mode: Mode, allowance: u16, values: &mut [f64]) -> u8
+fn dlmf_row(kind: Kind, mode: Mode, allowance: u32, values: &mut [f64]) -> u8
     ensures { λ r. ⌜ answer r (now (values .exit)) ≡ dlmfOf kind mode allowance (now (values .entry)) ⌝ }
 {
     number(modes::dlmf_row(kind, mode, allowance, values))
@@ -116,9 +116,9 @@ pub extern "C" fn spheroidal_prolate_row(
     m: u16,
     n: u16,
     c: f64,
-    allowance: u16,
+    allowance: u32,
     values: &mut [f64],
-    steps: &mut [u16],
+    steps: &mut [u32],
     lowers: &mut [f64],
     uppers: &mut [f64],
     substituted: &mut [u8],
@@ -143,9 +143,9 @@ pub extern "C" fn spheroidal_oblate_row(
     m: u16,
     n: u16,
     c: f64,
-    allowance: u16,
+    allowance: u32,
     values: &mut [f64],
-    steps: &mut [u16],
+    steps: &mut [u32],
     lowers: &mut [f64],
     uppers: &mut [f64],
     substituted: &mut [u8],
@@ -171,7 +171,7 @@ pub extern "C" fn spheroidal_prolate_dlmf_row(
     m: u16,
     n: u16,
     c: f64,
-    allowance: u16,
+    allowance: u32,
     values: &mut [f64],
 ) -> u8
     ensures { λ r. ⌜ answer r (now (values .exit)) ≡ dlmfOf Prolate (record { m = m; n = n; c = c }) allowance (now (values .entry)) ⌝ }
@@ -184,7 +184,7 @@ pub extern "C" fn spheroidal_oblate_dlmf_row(
     m: u16,
     n: u16,
     c: f64,
-    allowance: u16,
+    allowance: u32,
     values: &mut [f64],
 ) -> u8
     ensures { λ r. ⌜ answer r (now (values .exit)) ≡ dlmfOf Oblate (record { m = m; n = n; c = c }) allowance (now (values .entry)) ⌝ }

@@ -5,3 +5,4 @@ pub mod Reached
 pub mod StreamLaws
 pub mod Readings
 pub mod Ignored
+pub mod BothKinds

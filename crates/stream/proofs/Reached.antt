@@ -7,7 +7,7 @@ use native.Mathlib.Omega.{arith}
 use borrow.Author.Tests.{le-leb, lt-leb}
 use lib.Dec.{leb}
 use lib.ListN.{length}
-use Rattle.records.specs.declared.record.Next.the-variants.{Whole, Refused, End}
+use Rattle.records.specs.declared.record.Next.the-variants.{Whole, Unmarked, Cut, End}
 use Rattle.records.specs.declared.record.Record.{Record}
 use Rattle.records.specs.Record.{nextAt}
 use Rattle.records.specs.Lines.{rLine}
@@ -17,7 +17,7 @@ use Rattle.stream.specs.declared.stream.Progress.{Progress}
 use Rattle.stream.specs.Response.{responseTo}
 use Rattle.stream.specs.Inside.Calls.{Answered, answeredIn, answered, progress, longest}
 use Rattle.stream.proofs.Laws.{put-nothing, put-same}
-use Rattle.stream.proofs.Nexts.{whole-fits, answered-full, answered-end, answered-refused, answered-whole}
+use Rattle.stream.proofs.Nexts.{whole-told, answered-full, answered-end, answered-cut, answered-unmarked, answered-whole}
 
 -- `text` is put, and what is left to do gives what the whole call gives.
 pub record Reached (input : List ℕ) (from first : ℕ) (out₀ out : List ℕ) (at index used : ℕ) : Type 0 where
@@ -56,16 +56,19 @@ module _ {input : List ℕ} {from first : ℕ} {out₀ out : List ℕ} {at index
     pub ended : nextAt input at ≡ End → Done input from first out₀ out (record { at = at; index = index; used = used; refused = false })
     ended e = done (s .put) (answered-end _ _ _ _ _ _ roomy e)
 
-    pub refused : (k : ℕ) {after : List ℕ} {end : ℕ} → nextAt input at ≡ Refused k → Put out after used end (rLine index k) → Done input from first out₀ after (record { at = at; index = index; used = end; refused = true })
-    refused k e p = done (put-then (s .put) p) (answered-refused _ _ _ _ _ _ roomy k (s .enough) e)
+    pub cut : nextAt input at ≡ Cut → Done input from first out₀ out (record { at = at; index = index; used = used; refused = false })
+    cut e = done (s .put) (answered-cut _ _ _ _ _ _ roomy e)
 
-    pub answered-one : (r : Record) {after : List ℕ} {end : ℕ} → nextAt input at ≡ Whole r → Put out after used end (responseTo index r) → Reached input from first out₀ after (at + 33) (index + 1) end
-    answered-one r e p =
-        let fits = whole-fits input at r e in
+    pub unmarked : {after : List ℕ} {end : ℕ} → nextAt input at ≡ Unmarked → Put out after used end (rLine index 2) → Done input from first out₀ after (record { at = at; index = index; used = end; refused = true })
+    unmarked e p = done (put-then (s .put) p) (answered-unmarked _ _ _ _ _ _ roomy (s .enough) e)
+
+    pub answered-one : (r : Record) (size : ℕ) {after : List ℕ} {end : ℕ} → nextAt input at ≡ Whole r size → Put out after used end (responseTo index r) → Reached input from first out₀ after (at + size) (index + 1) end
+    answered-one r size e p =
+        let w = whole-told input at e in
         record {
           text = s .text ++ responseTo index r;
           left = s .left - 1;
           put = put-then (s .put) p;
-          enough = omega (arith, s .enough, fits);
-          rest = sym (answered-whole _ _ _ _ _ _ roomy r (s .enough) e) ∙ s .rest;
+          enough = omega (arith, s .enough, w .least, w .fits);
+          rest = sym (answered-whole _ _ _ _ _ _ roomy r size (s .enough) e) ∙ s .rest;
         }

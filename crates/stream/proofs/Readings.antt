@@ -1,138 +1,149 @@
 -- The statement of `specs/Readings.antt`. Assumes nothing.
-use Prim.Native.Nat.{ℕ, zero, suc, _+_, _-_, _/_, _%_, _≤_}
+use Prim.Native.Nat.{ℕ, zero, suc, _+_, _-_, _≤_, _<_}
 use mathlib.Core.Path.{_≡_, refl, sym, ap, _∙_}
 use mathlib.Core.Logic.{_⊎_, inl, inr, ⊎-elim}
 use mathlib.Core.Bool.{Bool, true, false, cond, true≢false}
 use mathlib.Core.List.{List, [], _∷_, _++_, append-assoc, append-nil}
 use native.Mathlib.Omega.{arith}
-use borrow.Author.Tests.{ltb-true, ltb-false}
-use lib.Dec.{ltb}
-use lib.ListN.{length}
-use Rattle.stream.specs.Stream.{linesIn, linesFrom}
+use borrow.Author.Tests.{leb-true, leb-false}
+use lib.Dec.{leb}
+use lib.ListN.{length, take, drop, take-append-drop}
+use lib.Seq.{length-take-le}
+use Rattle.records.specs.Record.{nextAt}
+use Rattle.stream.specs.Stream.{linesFrom}
 use Rattle.stream.specs.Inside.Calls.{Answered, answered, progress, linesAfter, longest}
-use Rattle.stream.specs.Readings.{callsIn, readingFrom, printed, joined, Cut, ReadInParts}
+use Rattle.stream.specs.StreamLaws.{Moved}
+use Rattle.stream.specs.Readings.{callsIn, answersTo, printed, joined, ReadInParts}
+use Rattle.stream.proofs.Nexts.{at-end, next-back}
 use Rattle.stream.proofs.StreamLaws as laws
+use Rattle.stream.proofs.StreamLaws.{Through}
 
 -- ---- how the calls go on
-abbrev further : List ℕ → ℕ → Answered → Answered
-further reading room a =
-    let b = answered reading room (a .at) (a .index) in
+abbrev pub further : List ℕ → ℕ → Answered → Answered
+further bytes room a =
+    let b = answered bytes room (a .at) (a .index) in
     record { text = a .text ++ b .text; at = b .at; index = b .index; refused = b .refused }
 
 -- the same but for its flag
 abbrev flagged : Answered → Bool → Answered
 flagged a t = record { text = a .text; at = a .at; index = a .index; refused = t }
 
-calls-refused : (most : ℕ) (reading : List ℕ) (room : ℕ) (a : Answered) → a .refused ≡ true → callsIn most reading room a ≡ a
-unfolding callsIn
-calls-refused zero reading room a f = refl
-calls-refused (suc most) reading room a f = rw (f, callsIn) (ap (flagged a) f)
+-- how many calls a place needs at most: one, and another for each byte that is left
+abbrev pub Enough : List ℕ → ℕ → ℕ → Type 0
+Enough bytes at most = length bytes - at < most
 
-calls-end : (most : ℕ) (reading : List ℕ) (room : ℕ) (a : Answered) → a .refused ≡ false → ltb (a .at) (length reading) ≡ false → callsIn most reading room a ≡ a
-unfolding callsIn
-calls-end zero reading room a f h = refl
-calls-end (suc most) reading room a f h = rw (f, h, callsIn) (ap (flagged a) f)
+module _ (most : ℕ) (bytes : List ℕ) (room : ℕ) (a : Answered) where
+  abbrev b : Answered
+  b = answered bytes room (a .at) (a .index)
 
-calls-on : (most : ℕ) (reading : List ℕ) (room : ℕ) (a : Answered) → a .refused ≡ false → ltb (a .at) (length reading) ≡ true → callsIn (suc most) reading room a ≡ callsIn most reading room (further reading room a)
-unfolding callsIn
-calls-on most reading room a f h = rw (f, h, callsIn)
+  pub calls-refused : b .refused ≡ true → callsIn (suc most) bytes room a ≡ further bytes room a
+  unfolding callsIn
+  calls-refused f = rw (f, callsIn) (ap (flagged (further bytes room a)) f)
 
--- ---- one reading, and what is read after it
-module _ (reading rest : List ℕ) (room : ℕ) (roomy : longest ≤ room) (cut : (length reading % 33 ≡ 0) ⊎ (rest ≡ [])) where
+  pub calls-through : b .refused ≡ false → leb (length (b .text) + longest) room ≡ true → callsIn (suc most) bytes room a ≡ further bytes room a
+  unfolding callsIn
+  calls-through f h = rw (f, h, callsIn) (ap (flagged (further bytes room a)) f)
+
+  pub calls-on : b .refused ≡ false → leb (length (b .text) + longest) room ≡ false → callsIn (suc most) bytes room a ≡ callsIn most bytes room (further bytes room a)
+  unfolding callsIn
+  calls-on f h = rw (f, h, callsIn) (ap (λ (t : Bool). callsIn most bytes room (flagged (further bytes room a) t)) f)
+
+-- ---- the bytes that are there, and those that come later
+module _ (bytes rest : List ℕ) (room : ℕ) where
   abbrev all : Answered → List ℕ
-  all a = a .text ++ linesAfter (reading ++ rest) a
+  all a = a .text ++ linesAfter (bytes ++ rest) a
 
-  abbrev Good : ℕ → Type 0
-  Good at = (at % 33 ≡ 0) × (at ≤ length reading)
+  all-further : (a : Answered) → a .refused ≡ false → all (further bytes room a) ≡ all a
+  all-further a f =
+      let b = answered bytes room (a .at) (a .index) in
+      append-assoc (a .text) (b .text) (linesAfter (bytes ++ rest) b) ∙ ap (λ (l : List ℕ). a .text ++ l) (laws.parts-joined bytes rest room (a .at) (a .index)) ∙ rw f
 
-  good-on : (at index : ℕ) → Good at → Good (answered reading room at index .at)
-  good-on at index g =
-      let m = laws.moves reading room at index (progress (answered reading room at index)) refl in
-      let w = m .within (g .1) in
-      (omega (arith, m .counts, m .forward), w)
-
-  -- one call
-  call : (at index : ℕ) → Good at → all (answered reading room at index) ≡ linesFrom (reading ++ rest) at index
-  call at index g =
-      ⊎-elim
-      (λ h. laws.parts-joined reading rest room at index ((length reading - at) / 33) (omega arith))
-      (λ e. let w : reading ++ rest ≡ reading = rw e (append-nil reading) in rw w (laws.joined reading room at index))
-      cut
-
-  all-further : (a : Answered) → Good (a .at) → a .refused ≡ false → all (further reading room a) ≡ all a
-  all-further a g f =
-      let b = answered reading room (a .at) (a .index) in
-      append-assoc (a .text) (b .text) (linesAfter (reading ++ rest) b) ∙ ap (λ (l : List ℕ). a .text ++ l) (call (a .at) (a .index) g) ∙ rw f
-
-  all-same : (most : ℕ) (a : Answered) → Good (a .at) → all (callsIn most reading room a) ≡ all a
+  all-same : (most : ℕ) (a : Answered) → a .refused ≡ false → all (callsIn most bytes room a) ≡ all a
   unfolding callsIn
-  all-same zero a g = refl
-  all-same (suc most) a g = go (a .refused) refl (all-same most (further reading room a) (good-on (a .at) (a .index) g))
-    where
-      more : a .refused ≡ false → (t : Bool) → ltb (a .at) (length reading) ≡ t → all (callsIn most reading room (further reading room a)) ≡ all (further reading room a) → all (callsIn (suc most) reading room a) ≡ all a
-      more f false h later = ap all (calls-end (suc most) reading room a f h)
-      more f true h later = ap all (calls-on most reading room a f h) ∙ later ∙ all-further a g f
-
-      go : (t : Bool) → a .refused ≡ t → all (callsIn most reading room (further reading room a)) ≡ all (further reading room a) → all (callsIn (suc most) reading room a) ≡ all a
-      go true f later = ap all (calls-refused (suc most) reading room a f)
-      go false f later = more f (ltb (a .at) (length reading)) refl later
-
-  -- the calls end where the stream is refused, or where all of the reading is answered
-  abbrev Ended : Answered → Type 0
-  Ended a = (a .refused ≡ true) ⊎ (a .at ≡ length reading)
-
-  ended : (most : ℕ) (a : Answered) → Good (a .at) → length reading - a .at ≤ most → Ended (callsIn most reading room a)
-  unfolding callsIn
-  ended zero a g enough = inr (omega (arith, g .1))
-  ended (suc most) a g enough = go (a .refused) refl (λ h. ended most (further reading room a) (good-on (a .at) (a .index) g) h)
+  all-same zero a f = refl
+  all-same (suc most) a f = go (b .refused) refl (all-same most (further bytes room a))
     where
       b : Answered
-      b = answered reading room (a .at) (a .index)
+      b = answered bytes room (a .at) (a .index)
 
       Later : Type 0
-      Later = length reading - b .at ≤ most → Ended (callsIn most reading room (further reading room a))
+      Later = b .refused ≡ false → all (callsIn most bytes room (further bytes room a)) ≡ all (further bytes room a)
 
-      last : a .refused ≡ false → ltb (a .at) (length reading) ≡ true → (t : Bool) → b .refused ≡ t → Later → Ended (callsIn most reading room (further reading room a))
-      last f h true r later = rw (calls-refused most reading room (further reading room a) r) (inl r)
-      last f h false r later =
-          let m = laws.moves reading room (a .at) (a .index) (progress b) refl in
-          let w = m .further roomy (ltb-true (a .at) (length reading) h) r in
-          later (omega arith)
+      more : b .refused ≡ false → (t : Bool) → leb (length (b .text) + longest) room ≡ t → Later → all (callsIn (suc most) bytes room a) ≡ all a
+      more g true h later = ap all (calls-through most bytes room a g h) ∙ all-further a f
+      more g false h later = ap all (calls-on most bytes room a g h) ∙ later g ∙ all-further a f
 
-      more : a .refused ≡ false → (t : Bool) → ltb (a .at) (length reading) ≡ t → Later → Ended (callsIn (suc most) reading room a)
-      more f false h later = let w = ltb-false (a .at) (length reading) h in rw (calls-end (suc most) reading room a f h) (inr (omega (arith, g .1)))
-      more f true h later = rw (calls-on most reading room a f h) (last f h (b .refused) refl later)
+      go : (t : Bool) → b .refused ≡ t → Later → all (callsIn (suc most) bytes room a) ≡ all a
+      go true g later = ap all (calls-refused most bytes room a g) ∙ all-further a f
+      go false g later = more g (leb (length (b .text) + longest) room) refl later
 
-      go : (t : Bool) → a .refused ≡ t → Later → Ended (callsIn (suc most) reading room a)
-      go true f later = rw (calls-refused (suc most) reading room a f) (inl f)
-      go false f later = more f (ltb (a .at) (length reading)) refl later
+-- ---- where the calls end: the stream is refused, or less than a record is left
+pub record Ended (bytes : List ℕ) (a : Answered) : Type 0 where
+  pub within : a .at ≤ length bytes
+  pub over : (a .refused ≡ true) ⊎ Through bytes (a .at)
 
-  -- the lines of a reading, with those of what is read after it unless it is refused
-  reading-lines : (index : ℕ) (after : ℕ → List ℕ) → ((i : ℕ) → after i ≡ linesFrom rest 0 i)
-      → let a = readingFrom reading room index in a .text ++ cond (a .refused) [] (after (a .index)) ≡ linesFrom (reading ++ rest) 0 index
-  reading-lines index after is = go (a .refused) refl
+module _ (bytes : List ℕ) (room : ℕ) (roomy : longest ≤ room) where
+  pub ended : (most : ℕ) (a : Answered) → a .at ≤ length bytes → Enough bytes (a .at) most → Ended bytes (callsIn most bytes room a)
+  unfolding callsIn
+  ended zero a w enough = absurd (omega arith)
+  ended (suc most) a w enough = go (b .refused) refl (ended most (further bytes room a))
     where
-      start : Answered
-      start = record { text = []; at = 0; index = index; refused = false }
+      b : Answered
+      b = answered bytes room (a .at) (a .index)
 
-      a : Answered
-      a = readingFrom reading room index
+      m : Moved bytes room (a .at) (a .index) (progress b)
+      m = laws.moves bytes room (a .at) (a .index) (progress b) refl
 
-      same : all a ≡ linesFrom (reading ++ rest) 0 index
-      same = all-same (length reading) start (omega arith, omega arith)
+      Later : Type 0
+      Later = b .at ≤ length bytes → Enough bytes (b .at) most → Ended bytes (callsIn most bytes room (further bytes room a))
 
-      go : (t : Bool) → a .refused ≡ t → a .text ++ cond (a .refused) [] (after (a .index)) ≡ linesFrom (reading ++ rest) 0 index
-      go true r = rw r (rw r at same)
-      go false r =
-          let e = ⊎-elim (λ y. absurd (true≢false (sym y ∙ r))) (λ y. y) (ended (length reading) start (omega arith, omega arith) (omega arith)) in
-          rw (r, is (a .index), ← laws.next-part reading rest (a .index)) (rw (r, e) at same)
+      more : b .refused ≡ false → (t : Bool) → leb (length (b .text) + longest) room ≡ t → Later → Ended bytes (callsIn (suc most) bytes room a)
+      more g true h later = rw (calls-through most bytes room a g h) (record { within = m .within w; over = inr (laws.through bytes room (a .at) (a .index) (leb-true _ _ h) g) })
+      more g false h later =
+          let in-bytes = m .within w in
+          let on = m .further roomy (leb-false _ _ h) g in
+          rw (calls-on most bytes room a g h) (later in-bytes (omega arith))
 
-pub read-from : (readings : List (List ℕ)) (room : ℕ) → Cut readings → longest ≤ room → (index : ℕ) → printed readings room index ≡ linesFrom (joined readings) 0 index
-unfolding printed joined Cut linesIn
-read-from [] room cut roomy index = refl
-read-from (reading ∷ []) room cut roomy index = reading-lines reading [] room roomy (inr refl) index (λ _. []) (λ _. refl)
-read-from (reading ∷ next ∷ readings) room cut roomy index =
-    reading-lines reading (joined (next ∷ readings)) room roomy (inl (cut .0)) index (printed (next ∷ readings) room) (read-from (next ∷ readings) room (cut .1) roomy)
+      go : (t : Bool) → b .refused ≡ t → Later → Ended bytes (callsIn (suc most) bytes room a)
+      go true g later = rw (calls-refused most bytes room a g) (record { within = m .within w; over = inl g })
+      go false g later = more g (leb (length (b .text) + longest) room) refl later
+
+  pub answers-ended : (index : ℕ) → Ended bytes (answersTo bytes room index)
+  answers-ended index = ended (suc (length bytes)) (record { text = []; at = 0; index = index; refused = false }) (omega arith) (omega arith)
+
+-- what less than a record is left of begins what is held
+through-held : (bytes : List ℕ) (at : ℕ) → at ≤ length bytes → Through bytes at → Through (drop at bytes) 0
+through-held bytes at h t =
+    let e : nextAt bytes at ≡ nextAt (drop at bytes) 0 =
+    ap (λ (l : List ℕ). nextAt l at) (sym (take-append-drop at bytes)) ∙ next-back (take at bytes) (drop at bytes) 0 at (let n = length-take-le at bytes h in omega arith) in
+    ⊎-elim (λ q. inl (sym e ∙ q)) (λ q. inr (sym e ∙ q)) t
+
+pub read-from : (readings : List (List ℕ)) (room : ℕ) → longest ≤ room → (held : List ℕ) (index : ℕ) → Through held 0 → printed readings room held index ≡ linesFrom (held ++ joined readings) 0 index
+unfolding printed joined
+read-from [] room roomy held index t = sym (laws.through-lines held 0 index t) ∙ ap (λ (l : List ℕ). linesFrom l 0 index) (sym (append-nil held))
+read-from (reading ∷ readings) room roomy held index t = go (a .refused) refl (λ w. read-from readings room roomy (drop (a .at) bytes) (a .index) (through-held bytes (a .at) (done .within) w))
+  where
+    bytes : List ℕ
+    bytes = held ++ reading
+
+    a : Answered
+    a = answersTo bytes room index
+
+    done : Ended bytes a
+    done = answers-ended bytes room roomy index
+
+    same : a .text ++ linesAfter (bytes ++ joined readings) a ≡ linesFrom (held ++ (reading ++ joined readings)) 0 index
+    same = all-same bytes (joined readings) room (suc (length bytes)) (record { text = []; at = 0; index = index; refused = false }) refl ∙ ap (λ (l : List ℕ). linesFrom l 0 index) (append-assoc held reading (joined readings))
+
+    Later : Type 0
+    Later = Through bytes (a .at) → printed readings room (drop (a .at) bytes) (a .index) ≡ linesFrom (drop (a .at) bytes ++ joined readings) 0 (a .index)
+
+    go : (f : Bool) → a .refused ≡ f → Later → a .text ++ cond (a .refused) [] (printed readings room (drop (a .at) bytes) (a .index)) ≡ linesFrom (held ++ (reading ++ joined readings)) 0 index
+    go true f later = rw f (rw f at same)
+    go false f later =
+        let w = ⊎-elim (λ y. absurd (true≢false (sym y ∙ f))) (λ y. y) (done .over) in
+        rw (f, later w, ← laws.next-part bytes (joined readings) (a .at) (a .index) (done .within)) (rw f at same)
 
 pub read-in-parts : ReadInParts
-read-in-parts readings room cut roomy = read-from readings room cut roomy 0
+unfolding joined
+read-in-parts readings room roomy = read-from readings room roomy [] 0 (inl (at-end [] 0 (omega arith)))

@@ -4,3 +4,4 @@ pub mod Stream
 pub mod Inside
 pub mod StreamLaws
 pub mod Readings
+pub mod BothKinds

@@ -1,42 +1,38 @@
--- How the program takes a stream, as a definition: reading after reading, and call after call in each. `ReadInParts` says that its lines are then those of the whole stream; `proofs/Readings.antt` proves it. The logic keeps no record of what a program writes, so that the program's loops are held to this definition by reading them, and its calls by proof.
-use Prim.Native.Nat.{ℕ, zero, suc, _%_, _≤_}
+-- How the program takes a stream, as a definition: reading after reading, and call after call in each. After each reading it answers the whole records that it has, and holds the beginning of the next. `ReadInParts` says that its lines are then those of the whole stream; `proofs/Readings.antt` proves it. The logic keeps no record of what a program reads and writes, so that the program's loops are held to this definition by reading them, and what they hold by proof.
+use Prim.Native.Nat.{ℕ, zero, suc, _+_, _≤_}
 use mathlib.Core.Path.{_≡_}
 use mathlib.Core.Bool.{true, false, cond}
 use mathlib.Core.List.{List, [], _∷_, _++_}
-use lib.Dec.{ltb}
-use lib.ListN.{length}
+use lib.Dec.{leb}
+use lib.ListN.{length, drop}
 use Rattle.stream.specs.Stream.{linesOf}
-use Rattle.stream.specs.Inside.Calls.{Answered, answered, longest}
+use Rattle.stream.specs.Inside.Calls.{Answered, answered, endLines, longest}
 
--- At most `most` calls on a reading after what was answered so far, until all of it is answered or the stream is refused. Each call has a buffer of `room` bytes.
+-- At most `most` calls on the bytes that are there, after what was answered so far: until the stream is refused, or a call leaves room for another record's lines. Each call has a buffer of `room` bytes.
 unfoldable pub callsIn : ℕ → List ℕ → ℕ → Answered → Answered
-callsIn zero reading room a = a
-callsIn (suc most) reading room a =
-    let b = answered reading room (a .at) (a .index) in
-    elim (a .refused) [ true ↦ a | false ↦ elim (ltb (a .at) (length reading)) [ false ↦ a | true ↦ callsIn most reading room (record { text = a .text ++ b .text; at = b .at; index = b .index; refused = b .refused }) ] ]
+callsIn zero bytes room a = a
+callsIn (suc most) bytes room a =
+    let b = answered bytes room (a .at) (a .index) in
+    let both : Answered = record { text = a .text ++ b .text; at = b .at; index = b .index; refused = b .refused } in
+    elim (b .refused) [ true ↦ both | false ↦ elim (leb (length (b .text) + longest) room) [ true ↦ both | false ↦ callsIn most bytes room both ] ]
 
--- all calls on a reading whose first record has this number
-abbrev pub readingFrom : List ℕ → ℕ → ℕ → Answered
-readingFrom reading room index = callsIn (length reading) reading room (record { text = []; at = 0; index = index; refused = false })
+-- all calls on the bytes that are there, whose first record has this number
+abbrev pub answersTo : List ℕ → ℕ → ℕ → Answered
+answersTo bytes room index = callsIn (suc (length bytes)) bytes room (record { text = []; at = 0; index = index; refused = false })
 
--- the lines of reading after reading, until one is refused
-unfoldable pub printed : List (List ℕ) → ℕ → ℕ → List ℕ
-printed [] room index = []
-printed (reading ∷ readings) room index =
-    let a = readingFrom reading room index in
-    a .text ++ cond (a .refused) [] (printed readings room (a .index))
+-- The lines of reading after reading, until the stream is refused. `held` are the bytes that no call has answered yet, the beginning of the record with number `index`.
+unfoldable pub printed : List (List ℕ) → ℕ → List ℕ → ℕ → List ℕ
+printed [] room held index = endLines held 0 index
+printed (reading ∷ readings) room held index =
+    let bytes = held ++ reading in
+    let a = answersTo bytes room index in
+    a .text ++ cond (a .refused) [] (printed readings room (drop (a .at) bytes) (a .index))
 
 -- the stream that was read
 unfoldable pub joined : List (List ℕ) → List ℕ
 joined [] = []
 joined (reading ∷ readings) = reading ++ joined readings
 
--- every reading but the last has whole records: its length is a multiple of 33
-unfoldable pub Cut : List (List ℕ) → Type 0
-Cut [] = Unit
-Cut (reading ∷ []) = Unit
-Cut (reading ∷ next ∷ readings) = (length reading % 33 ≡ 0) × Cut (next ∷ readings)
-
--- where the buffer has room for a record's lines, the lines are those of the stream, whatever the readings and the buffer
+-- where the buffer has room for a record's lines, the lines are those of the stream, whatever the readings and the buffer: records of either length may lie across readings, and a reading may be empty
 abbrev pub ReadInParts : Type 0
-ReadInParts = (readings : List (List ℕ)) (room : ℕ) → Cut readings → longest ≤ room → printed readings room 0 ≡ linesOf (joined readings)
+ReadInParts = (readings : List (List ℕ)) (room : ℕ) → longest ≤ room → printed readings room [] 0 ≡ linesOf (joined readings)

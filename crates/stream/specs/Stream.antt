@@ -1,16 +1,22 @@
--- The lines of a stream of records (document 01, 'A record comes in'). Definitions only.
+-- The lines of a stream of records (document 01, 'A record comes in', and Card 6). Definitions only.
 use Prim.Native.Nat.{ℕ, zero, suc, _+_, _-_}
 use mathlib.Core.List.{List, [], _++_}
 use lib.ListN.{length}
-use Rattle.records.specs.declared.record.Next.the-variants.{Whole, Refused, End}
+use Rattle.records.specs.declared.record.Next.the-variants.{Whole, Unmarked, Cut, End}
 use Rattle.records.specs.Record.{nextAt}
 use Rattle.records.specs.Lines.{rLine}
 use Rattle.stream.specs.Response.{responseTo}
 
--- The lines of at most `left` records from byte `at` on, the first of them with number `index`. Nothing follows the line of a record that is cut short or has another mark; every other record, refused or not, takes 33 bytes.
+-- The lines of at most `left` records from byte `at` on, the first of them with number `index`. Nothing follows the line of a record that is cut short or has neither mark; every other record, refused or not, takes as many bytes as its mark says.
 unfoldable pub linesIn : ℕ → List ℕ → ℕ → ℕ → List ℕ
 linesIn zero input at index = []
-linesIn (suc left) input at index = elim (nextAt input at) [ End ↦ [] | Refused k ↦ rLine index k | Whole r ↦ responseTo index r ++ linesIn left input (at + 33) (index + 1) ]
+linesIn (suc left) input at index =
+    elim (nextAt input at) [
+      | End ↦ []
+      | Cut ↦ rLine index 1
+      | Unmarked ↦ rLine index 2
+      | Whole r size ↦ responseTo index r ++ linesIn left input (at + size) (index + 1)
+    ]
 
 -- all lines from byte `at` on: there are never more records than bytes
 abbrev pub linesFrom : List ℕ → ℕ → ℕ → List ℕ

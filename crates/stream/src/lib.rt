@@ -5,4 +5,5 @@ mod stream;
 
 pub use response::LONGEST;
 pub use stream::Progress;
+pub use stream::answer_end;
 pub use stream::answer_some;

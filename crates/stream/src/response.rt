@@ -13,13 +13,13 @@ use modes::Operation;
 use modes::SliceAnswer;
 use records::Record;
 
-// No record's lines have more bytes: a row has at most 200 lines of 86, and as many of 33.
-pub const LONGEST: usize = 23800;
+// No record's lines have more bytes: a row has at most 200 lines of 91, and as many of 33.
+pub const LONGEST: usize = 24800;
 
 // The `V` and `Z` lines of a row's first `count` modes.
 fn put_row_lines(
     values: &[f64; 200],
-    steps: &[u16; 200],
+    steps: &[u32; 200],
     lowers: &[f64; 200],
     uppers: &[f64; 200],
     substituted: &[u8; 200],
@@ -29,9 +29,9 @@ fn put_row_lines(
     out: &mut [u8],
     at: usize,
 ) -> usize
-    requires { ⌜ (count ≤ 200) × (m < 1000) × (at + 119 * count ≤ length (now out)) ⌝ }
+    requires { ⌜ (count ≤ 200) × (m < 1000) × (at + 124 * count ≤ length (now out)) ⌝ }
     ensures { λ r. ⌜ Put (now (out .entry)) (now (out .exit)) at r (rowLines index m (slices (now (values .entry)) (now (steps .entry)) (now (lowers .entry)) (now (uppers .entry)) (now (substituted .entry))) count) ⌝ }
-    ensures { λ r. ⌜ r ≤ at + 119 * count ⌝ }
+    ensures { λ r. ⌜ r ≤ at + 124 * count ⌝ }
 {
     let mut used = at;
     let mut j: usize = 0;
@@ -78,7 +78,7 @@ fn put_d_lines(
 fn respond_row(
     kind: Kind,
     mode: Mode,
-    allowance: u16,
+    allowance: u32,
     index: u64,
     out: &mut [u8],
     at: usize,
@@ -122,7 +122,7 @@ fn respond_row(
 fn respond_dlmf_row(
     kind: Kind,
     mode: Mode,
-    allowance: u16,
+    allowance: u32,
     index: u64,
     out: &mut [u8],
     at: usize,

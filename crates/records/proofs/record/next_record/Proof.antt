@@ -1,9 +1,14 @@
 -- `records::record::next_record` meets its contract: each answer by the tests that led to it. Assumes nothing.
+use Prim.Native.Nat.{_+_}
 use mathlib.Core.Path.{ap}
-use borrow.Author.Tests.{lt-ltb, le-ltb, le-leb, lt-leb}
+use mathlib.Core.Logic.{⊎-elim}
+use native.Mathlib.Omega.{arith}
+use borrow.Author.Tests.{lt-ltb, le-ltb, le-leb, lt-leb, eq-eqb, ne-eqb}
 use borrow.Author.Needs.{needs}
 use Rattle.records.specs.Record.{nextAt}
 use Rattle.records.specs.declared.record.Next.the-variants.{Whole}
+use Rattle.records.specs.declared.record.Record.{Record}
+use Rattle.records.proofs.Laws.{width-known}
 use Rattle.records.proofs.record.next_record.Statement.{statement}
 use Rattle.records.proofs.record.next_record.Tie as tie
 
@@ -11,29 +16,48 @@ returns : tie.Need-returns
 unfolding nextAt
 returns c = rw (le-leb _ _ (c .if1 .taken))
 
-sub-if2 : tie.Need-sub-if2
-sub-if2 c = search needs
+sub-left : tie.Need-sub-left
+sub-left c = search needs
 
 returns-2 : tie.Need-returns-2
 unfolding nextAt
-returns-2 c = rw (lt-leb _ _ (c .before .if1 .left), lt-ltb _ 33 (c .if2 .taken))
+returns-2 c = rw (lt-leb _ _ (c .before .if1 .left), lt-ltb _ 2 (c .if2 .taken))
 
-marked-requires : tie.Need-marked-requires
-marked-requires c κs = search needs
-
-decode-requires : tie.Need-decode-requires
-decode-requires c κs = search needs
+width-at-requires : tie.Need-width-at-requires
+width-at-requires c κs = search needs
 
 returns-3 : tie.Need-returns-3
 unfolding nextAt
-returns-3 c =
-    rw (lt-leb _ _ (c .before .before .before .before .if1 .left), le-ltb _ 33 (c .before .before .before .if2 .left), ← c .before .before .marked .ensures, c .before .if3 .taken) (ap Whole (c .decode .ensures))
+returns-3 c = rw (lt-leb _ _ (c .before .before .before .if1 .left), le-ltb _ 2 (c .before .before .if2 .left), ← c .before .width-at .ensures, eq-eqb _ 0 (c .if3 .taken))
+
+add-size : tie.Need-add-size
+add-size c =
+    let s = c .before .before .before .before .before in
+    ⊎-elim (λ two. omega arith) (λ four. omega arith) (width-known (s .args .input .now) (s .args .at) (c .before .width-at .ensures) (c .if3 .left))
 
 returns-4 : tie.Need-returns-4
 unfolding nextAt
-returns-4 c = rw (lt-leb _ _ (c .before .before .before .if1 .left), le-ltb _ 33 (c .before .before .if2 .left), ← c .before .marked .ensures, c .if3 .left)
+returns-4 c = rw (lt-leb _ _ (c .before .before .before .before .if1 .left), le-ltb _ 2 (c .before .before .before .if2 .left), ← c .before .before .width-at .ensures, ne-eqb _ 0 (c .before .if3 .left), lt-ltb _ _ (c .if4 .taken))
+
+decode-requires : tie.Need-decode-requires
+decode-requires c κs = let s = c .before .before .before .before .before .before in
+    (width-known (s .args .input .now) (s .args .at) (c .before .before .width-at .ensures) (c .before .if3 .left), omega arith)
+
+returns-5 : tie.Need-returns-5
+unfolding nextAt
+returns-5 c =
+    rw (lt-leb _ _ (c .before .before .before .before .before .if1 .left), le-ltb _ 2 (c .before .before .before .before .if2 .left), ← c .before .before .before .width-at .ensures, ne-eqb _ 0 (c .before .before .if3 .left), le-ltb _ _ (c .before .if4 .left)) (ap (λ (r : Record). Whole r (31 + c .before .before .before .width-at .result)) (c .decode .ensures))
 
 pub next-record-spec : {M : Type 1} → statement M
 next-record-spec =
     tie.close
-    (tie.spec returns sub-if2 returns-2 marked-requires decode-requires returns-3 returns-4)
+    (tie.spec
+    returns
+    sub-left
+    returns-2
+    width-at-requires
+    returns-3
+    add-size
+    returns-4
+    decode-requires
+    returns-5)

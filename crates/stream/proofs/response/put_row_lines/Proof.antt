@@ -15,7 +15,7 @@ use Rattle.stream.proofs.response.put_row_lines.Tie as tie
 
 abbrev Inv-loop : tie.InvT-loop
 Inv-loop values steps lowers uppers substituted index m count out₀ at used₀ j₀ out used j =
-    (j ≤ count) × (length out ≡ length out₀) × (used ≤ at + 119 * j) × Put out₀ out at used (rowLines index m (slices values steps lowers uppers substituted) j)
+    (j ≤ count) × (length out ≡ length out₀) × (used ≤ at + 124 * j) × Put out₀ out at used (rowLines index m (slices values steps lowers uppers substituted) j)
 
 abbrev μ-loop : tie.MeasureT-loop
 μ-loop values steps lowers uppers substituted index m count out₀ at used₀ j₀ out used j = count - j
