@@ -1,19 +1,55 @@
--- What the reading loop keeps from turn to turn, and where it may end. The lines that it writes are those of `stream/specs/Readings.antt`.
-use Prim.Native.Nat.{ℕ, _≤_}
+-- What the reading loop holds from reading to reading, and where it may end. The lines that it writes are those of `stream/specs/Readings.antt`, which has the same steps.
+use Prim.Native.Nat.{ℕ, _+_, _<_, _≤_}
 use mathlib.Core.Path.{_≡_}
 use mathlib.Core.Bool.{true, false}
 use mathlib.Core.Logic.{_⊎_}
-use mathlib.Core.List.{List}
+use mathlib.Core.List.{List, [], _∷_, _++_}
+use lib.ListN.{length, take, drop}
 use Rattle.stream.specs.Readings.{answersTo}
-use Rattle.reading.specs.declared.lib.Arrived.{Arrived}
-use Rattle.reading.specs.declared.lib.Ending.{Ending}
+use Rattle.reading.specs.declared.Arrived.{Arrived}
+use Rattle.reading.specs.declared.Reading.{Reading}
 
--- where its lines were taken, a reading is answered whole
+-- how far the bytes that are there are answered: where the lines are taken, as far as the definition says
 pub record Answers (bytes : List ℕ) (room first : ℕ) (r : Arrived) : Type 0 where
-  pub at : r .at ≡ answersTo bytes room first .at
-  pub index : r .index ≡ answersTo bytes room first .index
-  pub refused : r .refused ≡ answersTo bytes room first .refused
+  pub within : r .at ≤ length bytes
+  pub counted : r .index ≤ first + r .at
+  pub through : r .written ≡ true → r .refused ≡ false → length bytes < r .at + 35
+  pub at : r .written ≡ true → r .at ≡ answersTo bytes room first .at
+  pub index : r .written ≡ true → r .index ≡ answersTo bytes room first .index
+  pub refused : r .written ≡ true → r .refused ≡ answersTo bytes room first .refused
 
--- The loop ends only where a reading got nothing, the stream was refused, nobody takes the lines any more, or 2^63 bytes have come.
-abbrev pub Ends : Ending → Type 0
+-- the beginning of a record that is not whole yet, and its number
+pub record Held : Type 0 where
+  pub bytes : List ℕ
+  pub index : ℕ
+
+-- what is held after some readings, the last of them first
+unfoldable pub heldAfter : ℕ → List (List ℕ) → Held
+heldAfter room [] = record { bytes = []; index = 0 }
+heldAfter room (reading ∷ earlier) =
+    let h = heldAfter room earlier in
+    let bytes = h .bytes ++ reading in
+    let a = answersTo bytes room (h .index) in
+    record { bytes = drop (a .at) bytes; index = a .index }
+
+-- how many bytes they have
+unfoldable pub total : List (List ℕ) → ℕ
+total [] = 0
+total (reading ∷ earlier) = length reading + total earlier
+
+-- the buffer starts with what is held after the readings so far, less than a record; each record that was answered had a byte at least
+pub record Keeps (room : ℕ) (buffer : List ℕ) (r : Reading) : Type 0 where
+  pub readings : List (List ℕ)
+  pub bytes : r .bytes ≡ total readings
+  pub held : take (r .held) buffer ≡ heldAfter room readings .bytes
+  pub index : r .index ≡ heldAfter room readings .index
+  pub short : r .held < 35
+  pub counted : r .index + r .held ≤ r .bytes
+
+-- nothing has gone wrong yet: the stream is not refused, and its lines are taken
+abbrev pub Goes : Reading → Type 0
+Goes r = (r .refused ≡ false) × (r .written ≡ true)
+
+-- the loop ends only where a reading got nothing, the stream is refused, nobody takes the lines any more, or 2^63 bytes have come
+abbrev pub Ends : Reading → Type 0
 Ends r = (r .got ≡ 0) ⊎ (r .refused ≡ true) ⊎ (r .written ≡ false) ⊎ (9223372036854775808 ≤ r .bytes)

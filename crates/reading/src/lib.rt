@@ -7,7 +7,7 @@ ghost use mathlib.Core.Bool.{true};
 ghost use Prim.Native.Nat.{_+_, _-_, _<_, _≤_};
 ghost use lib.ListN.{length, take, drop};
 ghost use Rattle.stream.specs.Inside.Calls.{longest};
-ghost use Rattle.reading.specs.Loop.{Answers, Ends};
+ghost use Rattle.reading.specs.Loop.{Answers, Keeps, Goes, Ends};
 
 // How far the bytes that are there were answered.
 struct Arrived {
@@ -21,24 +21,27 @@ struct Arrived {
     written: bool,
 }
 
-// How the loop came to its end: what its last turn saw.
-pub struct Ending {
-    // How many bytes the last reading got: 0 where the input has ended.
+// How far a stream has come after a reading.
+pub struct Reading {
+    // How many bytes the reading got: 0 where the input has ended.
     pub got: usize,
+    // How many bytes came in all.
+    pub bytes: u64,
+    // How many bytes at the buffer's start are held: the beginning of a record that is not whole yet.
+    pub held: usize,
+    // The number of that record.
+    pub index: u64,
     // The stream was refused.
     pub refused: bool,
     // The lines were taken; else nobody reads them any more.
     pub written: bool,
-    // How many bytes came in all.
-    pub bytes: u64,
 }
 
 // Writes the lines of all whole records that are there.
 fn answer_arrived(to: i32, input: &[u8], first: u64, out: &mut [u8]) -> Arrived
-    requires { ⌜ (longest ≤ length (now out)) × (first + length (now input) < 18446744073709551616) ⌝ }
+    requires { ⌜ (longest ≤ length (now out)) × (length (now input) < 4294967296) × (first < 9223372036854775808) ⌝ }
     ensures { λ r. ⌜ length (now (out .exit)) ≡ length (now (out .entry)) ⌝ }
-    ensures { λ r. ⌜ (r .at ≤ length (now (input .entry))) × (r .index ≤ first + r .at) ⌝ }
-    ensures { λ r. ⌜ r .written ≡ true → Answers (now (input .entry)) (length (now (out .entry))) first r ⌝ }
+    ensures { λ r. ⌜ Answers (now (input .entry)) (length (now (out .entry))) first r ⌝ }
 {
     let mut index = first;
     let mut at: usize = 0;
@@ -75,10 +78,19 @@ fn answer_arrived(to: i32, input: &[u8], first: u64, out: &mut [u8]) -> Arrived
     }
 }
 
-// One reading into the buffer behind the bytes that it holds. Answers how many came: 0 where the
-// input has ended or cannot be read.
+// Writes what is still to be said where the input has ended.
+fn answer_end(to: i32, input: &[u8], index: u64, out: &mut [u8]) -> bool
+    requires { ⌜ longest ≤ length (now out) ⌝ }
+    ensures { λ _. ⌜ length (now (out .exit)) ≡ length (now (out .entry)) ⌝ }
+{
+    let used = stream::answer_end(input, 0, index, out);
+    io::write_all(to, &out[..used])
+}
+
+// Reads into the buffer behind the bytes that are held, and answers how many came. There is room for
+// one at least, so that 0 means that the input has ended or cannot be read.
 fn read_behind(from: i32, buffer: &mut [u8], held: usize) -> usize
-    requires { ⌜ held ≤ length (now buffer) ⌝ }
+    requires { ⌜ held < length (now buffer) ⌝ }
     ensures { λ r. ⌜ held + r ≤ length (now (buffer .entry)) ⌝ }
     ensures { λ r. ⌜ (length (now (buffer .exit)) ≡ length (now (buffer .entry))) × (take held (now (buffer .exit)) ≡ take held (now (buffer .entry))) ⌝ }
 {
@@ -99,65 +111,71 @@ fn keep(buffer: &mut [u8], at: usize, end: usize)
     }
 }
 
-// Writes what is still to be said where the input has ended.
-fn answer_end(to: i32, input: &[u8], index: u64, out: &mut [u8]) -> bool
-    requires { ⌜ longest ≤ length (now out) ⌝ }
-    ensures { λ _. ⌜ length (now (out .exit)) ≡ length (now (out .entry)) ⌝ }
+// One reading: the whole records that are there now are answered, and the beginning of the next is
+// held.
+fn take_reading(from: i32, to: i32, buffer: &mut [u8], out: &mut [u8], before: Reading) -> Reading
+    requires { ⌜ (35 ≤ length (now buffer)) × (length (now buffer) < 4294967296) × (longest ≤ length (now out)) × (before .bytes < 9223372036854775808) ⌝ }
+    requires { ⌜ Keeps (length (now out)) (now buffer) before ⌝ }
+    ensures { λ r. ⌜ (length (now (buffer .exit)) ≡ length (now (buffer .entry))) × (length (now (out .exit)) ≡ length (now (out .entry))) ⌝ }
+    ensures { λ r. ⌜ r .bytes ≡ before .bytes + r .got ⌝ }
+    ensures { λ r. ⌜ (Goes r → Keeps (length (now (out .entry))) (now (buffer .exit)) r) ⌝ }
 {
-    let used = stream::answer_end(input, 0, index, out);
-    io::write_all(to, &out[..used])
+    let held = before.held;
+    let index = before.index;
+    let got = read_behind(from, buffer, held);
+    if got == 0 {
+        let written = answer_end(to, &buffer[..held], index, out);
+        return Reading {
+            got,
+            bytes: before.bytes,
+            held,
+            index,
+            refused: 0 < held,
+            written,
+        };
+    }
+    let end = held + got;
+    let arrived = answer_arrived(to, &buffer[..end], index, out);
+    let at = arrived.at;
+    keep(buffer, at, end);
+    Reading {
+        got,
+        bytes: before.bytes + (got as u64),
+        held: end - at,
+        index: arrived.index,
+        refused: arrived.refused,
+        written: arrived.written,
+    }
 }
 
 // Answers a stream to its end, or to where it is refused or its lines are no longer taken. The buffer
-// may have any length that holds a record. The contract rules out a loop that stops after some number
-// of readings, or takes a short reading for the input's end. The bound, 2^63 bytes, is never met.
-pub fn answer_all(from: i32, to: i32, buffer: &mut [u8], out: &mut [u8]) -> Ending
+// may have any length that holds a record. The contract rules out a loop that ends after some number
+// of readings or takes a short reading for the input's end, and one that loses a byte between two
+// readings or reads it twice. The bound of 2^63 bytes is never met.
+pub fn answer_all(from: i32, to: i32, buffer: &mut [u8], out: &mut [u8]) -> Reading
     requires { ⌜ (35 ≤ length (now buffer)) × (length (now buffer) < 4294967296) × (longest ≤ length (now out)) ⌝ }
     ensures { λ r. ⌜ Ends r ⌝ }
+    ensures { λ r. ⌜ (Goes r → Keeps (length (now (out .entry))) (now (buffer .exit)) r) ⌝ }
 {
-    let mut held: usize = 0;
-    let mut index: u64 = 0;
-    let mut bytes: u64 = 0;
-    let mut got: usize = 0;
-    while bytes < 9223372036854775808 {
-        got = read_behind(from, buffer, held);
-        if got == 0 {
-            let written = answer_end(to, &buffer[..held], index, out);
-            return Ending {
-                got,
-                refused: 0 < held,
-                written,
-                bytes,
-            };
-        }
-        let end = held + got;
-        let arrived = answer_arrived(to, &buffer[..end], index, out);
-        bytes = bytes + (got as u64);
-        if arrived.refused {
-            return Ending {
-                got,
-                refused: true,
-                written: arrived.written,
-                bytes,
-            };
-        }
-        if !arrived.written {
-            return Ending {
-                got,
-                refused: false,
-                written: false,
-                bytes,
-            };
-        }
-        let at = arrived.at;
-        keep(buffer, at, end);
-        held = end - at;
-        index = arrived.index;
-    }
-    Ending {
-        got,
+    let mut last = Reading {
+        got: 0,
+        bytes: 0,
+        held: 0,
+        index: 0,
         refused: false,
         written: true,
-        bytes,
+    };
+    while last.bytes < 9223372036854775808 {
+        last = take_reading(from, to, buffer, out, last);
+        if last.got == 0 {
+            return last;
+        }
+        if last.refused {
+            return last;
+        }
+        if !last.written {
+            return last;
+        }
     }
+    last
 }
