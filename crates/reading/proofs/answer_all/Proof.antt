@@ -24,7 +24,7 @@ loop-holds c = (refl, refl, (refl, refl), readings.started _ _)
 take-reading-requires : tie.Need-take-reading-requires Inv-loop μ-loop
 take-reading-requires c κs =
     let l = c .before .before .before .before .loop in
-    ((omega (arith, l .inv .0), omega (arith, l .inv .0), omega (arith, l .inv .1), c .before .before .if1 .taken), readings.keeps-in (sym (l .inv .1)) (l .inv .3))
+    ((omega (arith, l .inv .0), omega (arith, l .inv .0), omega (arith, l .inv .1), omega arith), readings.keeps-in (sym (l .inv .1)) (l .inv .3))
 
 same-length : tie.Need-same-length Inv-loop μ-loop
 same-length c = search needs
