@@ -19,9 +19,9 @@ fn print_usage() {
         b"usage: spheroidal < records > lines\n\
         It takes no arguments. Standard input has records of 33 bytes: the mark 53 57 (hexadecimal), the\n\
         operation (one byte), m, n and the allowance (two bytes each), then c, cv and x as doubles, all\n\
-        little-endian; or of 35 bytes: the mark 53 56, and an allowance of four bytes. Each record is\n\
-        answered as soon as it has arrived. Operations: 1 and 2 rows, 3 and 4 angular, 5 radial, 6 and 7 DLMF rows, 8 first kind.\n\
-        The lines and their refusals are told in docs/SPECIFICATION.md.\n",
+        little-endian; or of 35 bytes: the mark 53 56, and an allowance of four bytes. Each is answered\n\
+        as soon as it has arrived. Operations: 1 and 2 rows, 3 and 4 angular, 5 radial, 6 and 7 DLMF rows,\n\
+        8 first kind. The lines and their refusals are told in docs/SPECIFICATION.md.\n",
     );
 }
 

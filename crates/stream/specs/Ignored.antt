@@ -1,4 +1,4 @@
--- What of a record its lines do not depend on (document 01, 'A record comes in'): rows ignore cv and x, angular pairs and radial functions, operation 8's first kind among them, the allowance. Two records that differ only there have lines equal but for the record number, wherever in a stream they stand. Statement only: `proofs/Ignored.antt` proves it.
+-- What of a record of either kind its lines do not depend on (document 01, 'A record comes in'): rows ignore cv and x, angular pairs and radial functions, operation 8's first kind among them, the allowance. Two records that differ only there have lines equal but for the record number, wherever in a stream they stand. Statement only: `proofs/Ignored.antt` proves it.
 use Prim.Native.Nat.{ℕ}
 use mathlib.Core.Path.{_≡_}
 use mathlib.Core.List.{List, [], _∷_, _++_}
