@@ -1,11 +1,11 @@
--- What the reading loop holds from reading to reading, and where it may end. The lines that it writes are those of `stream/specs/Readings.antt`, which has the same steps.
+-- What the reading loop holds from reading to reading, and where it may end. The steps are those of `stream/specs/Readings.antt`, which also says what its lines are.
 use Prim.Native.Nat.{ℕ, _+_, _<_, _≤_}
 use mathlib.Core.Path.{_≡_}
 use mathlib.Core.Bool.{true, false}
 use mathlib.Core.Logic.{_⊎_}
-use mathlib.Core.List.{List, [], _∷_, _++_}
-use lib.ListN.{length, take, drop}
-use Rattle.stream.specs.Readings.{answersTo}
+use mathlib.Core.List.{List, [], _∷_}
+use lib.ListN.{length, take}
+use Rattle.stream.specs.Readings.{answersTo, Held, nothing, holds}
 use Rattle.reading.specs.declared.Arrived.{Arrived}
 use Rattle.reading.specs.declared.Reading.{Reading}
 
@@ -18,19 +18,10 @@ pub record Answers (bytes : List ℕ) (room first : ℕ) (r : Arrived) : Type 0 
   pub index : r .written ≡ true → r .index ≡ answersTo bytes room first .index
   pub refused : r .written ≡ true → r .refused ≡ answersTo bytes room first .refused
 
--- the beginning of a record that is not whole yet, and its number
-pub record Held : Type 0 where
-  pub bytes : List ℕ
-  pub index : ℕ
-
 -- what is held after some readings, the last of them first
 unfoldable pub heldAfter : ℕ → List (List ℕ) → Held
-heldAfter room [] = record { bytes = []; index = 0 }
-heldAfter room (reading ∷ earlier) =
-    let h = heldAfter room earlier in
-    let bytes = h .bytes ++ reading in
-    let a = answersTo bytes room (h .index) in
-    record { bytes = drop (a .at) bytes; index = a .index }
+heldAfter room [] = nothing
+heldAfter room (reading ∷ earlier) = holds room (heldAfter room earlier) reading
 
 -- how many bytes they have
 unfoldable pub total : List (List ℕ) → ℕ

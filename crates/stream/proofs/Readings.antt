@@ -13,7 +13,7 @@ use Rattle.records.specs.Record.{nextAt}
 use Rattle.stream.specs.Stream.{linesFrom}
 use Rattle.stream.specs.Inside.Calls.{Answered, answered, progress, linesAfter, longest}
 use Rattle.stream.specs.StreamLaws.{Moved}
-use Rattle.stream.specs.Readings.{callsIn, answersTo, printed, joined, ReadInParts}
+use Rattle.stream.specs.Readings.{callsIn, answersTo, Held, nothing, answersWith, holds, printed, joined, ReadInParts}
 use Rattle.stream.proofs.Nexts.{at-end, next-back}
 use Rattle.stream.proofs.StreamLaws as laws
 use Rattle.stream.proofs.StreamLaws.{Through}
@@ -118,27 +118,27 @@ through-held bytes at h t =
     ap (λ (l : List ℕ). nextAt l at) (sym (take-append-drop at bytes)) ∙ next-back (take at bytes) (drop at bytes) 0 at (let n = length-take-le at bytes h in omega arith) in
     ⊎-elim (λ q. inl (sym e ∙ q)) (λ q. inr (sym e ∙ q)) t
 
-pub read-from : (readings : List (List ℕ)) (room : ℕ) → longest ≤ room → (held : List ℕ) (index : ℕ) → Through held 0 → printed readings room held index ≡ linesFrom (held ++ joined readings) 0 index
+pub read-from : (readings : List (List ℕ)) (room : ℕ) → longest ≤ room → (h : Held) → Through (h .bytes) 0 → printed readings room h ≡ linesFrom (h .bytes ++ joined readings) 0 (h .index)
 unfolding printed joined
-read-from [] room roomy held index t = sym (laws.through-lines held 0 index t) ∙ ap (λ (l : List ℕ). linesFrom l 0 index) (sym (append-nil held))
-read-from (reading ∷ readings) room roomy held index t = go (a .refused) refl (λ w. read-from readings room roomy (drop (a .at) bytes) (a .index) (through-held bytes (a .at) (done .within) w))
+read-from [] room roomy h t = sym (laws.through-lines (h .bytes) 0 (h .index) t) ∙ ap (λ (l : List ℕ). linesFrom l 0 (h .index)) (sym (append-nil (h .bytes)))
+read-from (reading ∷ readings) room roomy h t = go (a .refused) refl (λ w. read-from readings room roomy (holds room h reading) (through-held bytes (a .at) (done .within) w))
   where
     bytes : List ℕ
-    bytes = held ++ reading
+    bytes = h .bytes ++ reading
 
     a : Answered
-    a = answersTo bytes room index
+    a = answersWith room h reading
 
     done : Ended bytes a
-    done = answers-ended bytes room roomy index
+    done = answers-ended bytes room roomy (h .index)
 
-    same : a .text ++ linesAfter (bytes ++ joined readings) a ≡ linesFrom (held ++ (reading ++ joined readings)) 0 index
-    same = all-same bytes (joined readings) room (suc (length bytes)) (record { text = []; at = 0; index = index; refused = false }) refl ∙ ap (λ (l : List ℕ). linesFrom l 0 index) (append-assoc held reading (joined readings))
+    same : a .text ++ linesAfter (bytes ++ joined readings) a ≡ linesFrom (h .bytes ++ (reading ++ joined readings)) 0 (h .index)
+    same = all-same bytes (joined readings) room (suc (length bytes)) (record { text = []; at = 0; index = h .index; refused = false }) refl ∙ ap (λ (l : List ℕ). linesFrom l 0 (h .index)) (append-assoc (h .bytes) reading (joined readings))
 
     Later : Type 0
-    Later = Through bytes (a .at) → printed readings room (drop (a .at) bytes) (a .index) ≡ linesFrom (drop (a .at) bytes ++ joined readings) 0 (a .index)
+    Later = Through bytes (a .at) → printed readings room (holds room h reading) ≡ linesFrom (drop (a .at) bytes ++ joined readings) 0 (a .index)
 
-    go : (f : Bool) → a .refused ≡ f → Later → a .text ++ cond (a .refused) [] (printed readings room (drop (a .at) bytes) (a .index)) ≡ linesFrom (held ++ (reading ++ joined readings)) 0 index
+    go : (f : Bool) → a .refused ≡ f → Later → a .text ++ cond (a .refused) [] (printed readings room (holds room h reading)) ≡ linesFrom (h .bytes ++ (reading ++ joined readings)) 0 (h .index)
     go true f later = rw f (rw f at same)
     go false f later =
         let w = ⊎-elim (λ y. absurd (true≢false (sym y ∙ f))) (λ y. y) (done .over) in
@@ -146,4 +146,4 @@ read-from (reading ∷ readings) room roomy held index t = go (a .refused) refl 
 
 pub read-in-parts : ReadInParts
 unfolding joined
-read-in-parts readings room roomy = read-from readings room roomy [] 0 (inl (at-end [] 0 (omega arith)))
+read-in-parts readings room roomy = read-from readings room roomy nothing (inl (at-end [] 0 (omega arith)))

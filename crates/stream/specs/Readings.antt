@@ -20,13 +20,28 @@ callsIn (suc most) bytes room a =
 abbrev pub answersTo : List ℕ → ℕ → ℕ → Answered
 answersTo bytes room index = callsIn (suc (length bytes)) bytes room (record { text = []; at = 0; index = index; refused = false })
 
--- The lines of reading after reading, until the stream is refused. `held` are the bytes that no call has answered yet, the beginning of the record with number `index`.
-unfoldable pub printed : List (List ℕ) → ℕ → List ℕ → ℕ → List ℕ
-printed [] room held index = endLines held 0 index
-printed (reading ∷ readings) room held index =
-    let bytes = held ++ reading in
-    let a = answersTo bytes room index in
-    a .text ++ cond (a .refused) [] (printed readings room (drop (a .at) bytes) (a .index))
+-- what is held between two readings: the bytes that no call has answered yet, which begin a record, and the number of that record
+pub record Held : Type 0 where
+  pub bytes : List ℕ
+  pub index : ℕ
+
+abbrev pub nothing : Held
+nothing = record { bytes = []; index = 0 }
+
+-- another reading: its bytes come behind what is held
+abbrev pub answersWith : ℕ → Held → List ℕ → Answered
+answersWith room h reading = answersTo (h .bytes ++ reading) room (h .index)
+
+-- and what is held after it
+abbrev pub holds : ℕ → Held → List ℕ → Held
+holds room h reading = let a = answersWith room h reading in record { bytes = drop (a .at) (h .bytes ++ reading); index = a .index }
+
+-- the lines of reading after reading, until the stream is refused, and of what is held at the end
+unfoldable pub printed : List (List ℕ) → ℕ → Held → List ℕ
+printed [] room h = endLines (h .bytes) 0 (h .index)
+printed (reading ∷ readings) room h =
+    let a = answersWith room h reading in
+    a .text ++ cond (a .refused) [] (printed readings room (holds room h reading))
 
 -- the stream that was read
 unfoldable pub joined : List (List ℕ) → List ℕ
@@ -35,4 +50,4 @@ joined (reading ∷ readings) = reading ++ joined readings
 
 -- where the buffer has room for a record's lines, the lines are those of the stream, whatever the readings and the buffer: records of either length may lie across readings, and a reading may be empty
 abbrev pub ReadInParts : Type 0
-ReadInParts = (readings : List (List ℕ)) (room : ℕ) → longest ≤ room → printed readings room [] 0 ≡ linesOf (joined readings)
+ReadInParts = (readings : List (List ℕ)) (room : ℕ) → longest ≤ room → printed readings room nothing ≡ linesOf (joined readings)
