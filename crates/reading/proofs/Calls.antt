@@ -1,7 +1,6 @@
 -- The invariant of `answer_arrived`, with one law for each thing that a turn can meet. Assumes nothing.
-use Prim.Native.Nat.{ℕ, zero, suc, _+_, _-_, _<_, _≤_}
+use Prim.Native.Nat.{ℕ, zero, suc, _+_, _<_, _≤_}
 use mathlib.Core.Path.{_≡_, refl, sym, ap, _∙_}
-use mathlib.Core.Logic.{⊎-elim}
 use mathlib.Core.Bool.{Bool, true, false, true≢false}
 use mathlib.Core.List.{List, [], _++_}
 use native.Mathlib.Omega.{arith}
@@ -12,7 +11,6 @@ use Rattle.stream.specs.Inside.Calls.{Answered, answered, progress, longest}
 use Rattle.stream.specs.Readings.{callsIn, answersTo}
 use Rattle.stream.proofs.StreamLaws.{moves}
 use Rattle.stream.proofs.Readings.{further, Enough, calls-refused, calls-through, calls-on}
-use Rattle.reading.specs.declared.Arrived.{Arrived}
 use Rattle.reading.specs.Loop.{Answers}
 
 -- what is left to do gives what all calls give

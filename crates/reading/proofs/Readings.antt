@@ -1,12 +1,11 @@
 -- What `take_reading` and `answer_all` keep from reading to reading. Assumes nothing.
-use Prim.Native.Nat.{ℕ, _+_, _-_, _<_, _≤_}
+use Prim.Native.Nat.{ℕ, _+_, _-_, _≤_}
 use mathlib.Core.Path.{_≡_, refl, sym, ap, subst, _∙_}
 use mathlib.Core.Bool.{Bool, true, false}
 use mathlib.Core.List.{List, [], _∷_, _++_}
 use native.Mathlib.Omega.{arith}
 use lib.ListN.{length, take, drop, length-drop}
 use lib.Seq.{length-take-le, take-add}
-use Rattle.stream.specs.Readings.{answersTo}
 use Rattle.reading.specs.declared.Arrived.{Arrived}
 use Rattle.reading.specs.declared.Reading.{Reading}
 use Rattle.reading.specs.Loop.{Answers, heldAfter, total, Keeps}
