@@ -3,7 +3,7 @@
 use oracle::answer::{Build, aswfa, both_kinds, msta1, msta2, record_lines, stream_lines};
 use oracle::orders::Search;
 use oracle::reading::{highest_order, order_search, refusal};
-use oracle::record::{Record, Request, hex, same};
+use oracle::record::{Form, Record, Request, Written, hex, same};
 
 use crate::known::{Input, Known, matches};
 use crate::tally::Tally;
@@ -159,7 +159,7 @@ Z 0 2 0
 A 1 0 0 3ff0000000000000 0000000000000000
 ";
 
-pub fn example_records() -> [Record; 2] {
+pub fn example_records() -> [Written; 2] {
     let angular = Record {
         operation: 3,
         m: 0,
@@ -174,12 +174,13 @@ pub fn example_records() -> [Record; 2] {
         n: 2,
         ..angular
     };
-    [row, angular]
+    let form = Form::Short;
+    [row, angular].map(|record| Written { form, record })
 }
 
 fn example_stream() -> Vec<u8> {
     example_records()
         .iter()
-        .flat_map(Record::to_bytes)
+        .flat_map(Written::to_bytes)
         .collect()
 }

@@ -1,7 +1,7 @@
 //! Our program held against the oracle.
 
 use oracle::answer::{Build, next_record, stream_lines};
-use oracle::record::{Record, hex};
+use oracle::record::{Written, hex};
 
 use crate::landed::{CLASSES, DAMAGED_STREAMS, class_of, has_landed};
 use crate::program::Program;
@@ -14,6 +14,8 @@ pub struct Comparison {
     pub not_compared: [usize; CLASSES.len()],
     /// Faults of a whole stream rather than of one record.
     pub streams: Tally,
+    /// Streams that arrive in pieces.
+    pub pieces: Tally,
 }
 
 impl Comparison {
@@ -23,16 +25,17 @@ impl Comparison {
             classes: CLASSES.iter().map(|(name, _)| Tally::new(name)).collect(),
             not_compared: [0; CLASSES.len()],
             streams: Tally::new("whole streams"),
+            pieces: Tally::new("streams in pieces through a pipe"),
         }
     }
 
     /// Sends records that have landed as one stream; `expected` holds each one's lines.
-    pub fn compare_records(&mut self, records: &[Record], expected: &[String]) {
+    pub fn compare_records(&mut self, records: &[Written], expected: &[String]) {
         let Some(program) = &self.program else { return };
         if records.is_empty() {
             return;
         }
-        let stream: Vec<u8> = records.iter().flat_map(Record::to_bytes).collect();
+        let stream: Vec<u8> = records.iter().flat_map(Written::to_bytes).collect();
         let answer = program.lines(&stream).map(|lines| normal(&lines));
         let printed = answer.as_deref().unwrap_or_default();
         let (groups, strays) = by_record(printed, records.len());
@@ -42,10 +45,10 @@ impl Comparison {
         };
         let sound = fault.is_none();
         self.streams.count(sound, || fault.unwrap_or_default());
-        for ((record, expected), printed) in records.iter().zip(expected).zip(&groups) {
-            let tally = &mut self.classes[class_of(record.operation)];
+        for ((written, expected), printed) in records.iter().zip(expected).zip(&groups) {
+            let tally = &mut self.classes[class_of(written.record.operation)];
             tally.count(expected == printed, || {
-                format!("{record}\n{}", first_difference(expected, printed))
+                format!("{written}\n{}", first_difference(expected, printed))
             });
         }
     }
@@ -59,11 +62,30 @@ impl Comparison {
         let expected = stream_lines(Build::PowerRule, stream);
         let printed = program.lines(stream).map(|lines| normal(&lines));
         self.classes[DAMAGED_STREAMS].count(printed.as_ref() == Ok(&expected), || {
-            let bytes: Vec<String> = stream.iter().map(|byte| format!("{byte:02x}")).collect();
-            let printed = printed.clone().unwrap_or_else(|fault| fault);
-            let difference = first_difference(&expected, &printed);
-            format!("{}\n{difference}", bytes.concat())
+            let digits: String = stream.iter().map(|byte| format!("{byte:02x}")).collect();
+            format!("{digits}\n{}", fault(&expected, &printed))
         });
+    }
+
+    /// The pieces of a stream whose operations have landed.
+    pub fn compare_pieces(&mut self, pieces: &[Vec<u8>]) {
+        let Some(program) = &self.program else { return };
+        let stream = pieces.concat();
+        let expected = stream_lines(Build::PowerRule, &stream);
+        let printed = program.lines_of_pieces(pieces).map(|lines| normal(&lines));
+        self.pieces.count(printed.as_ref() == Ok(&expected), || {
+            let (bytes, pieces) = (stream.len(), pieces.len());
+            let fault = fault(&expected, &printed);
+            format!("{bytes} bytes in {pieces} pieces\n{fault}")
+        });
+    }
+}
+
+/// Why a stream was not answered, or where its lines differ.
+fn fault(expected: &str, printed: &Result<String, String>) -> String {
+    match printed {
+        Ok(printed) => first_difference(expected, printed),
+        Err(fault) => format!("    {fault}"),
     }
 }
 

@@ -4,7 +4,7 @@ use oracle::answer::segv;
 use oracle::reading::{
     coefficient_refusal, half_offset_plus_c, matrix_terms, needed_allowance, off_disc_refused,
 };
-use oracle::record::{Record, Request};
+use oracle::record::{Form, Record, Request, Written};
 
 use crate::random::Random;
 
@@ -132,6 +132,35 @@ const OFF_DISC: [(u64, OffDisc); 14] = [
     (7, OffDisc::Large),
 ];
 
+/// An allowance above 65535, which the long form alone has room for. Cut to 16 bits, most of them would
+/// be used up.
+#[derive(Clone, Copy)]
+enum Wide {
+    /// 65536.
+    Least,
+    /// One or more times 65536, and beside the least that suffices.
+    AboveNeeded,
+    /// As a signed number the greatest, 2147483647.
+    GreatestSigned,
+    /// As a signed number negative: 2147483648 and some more.
+    Negative,
+    /// 4294967295.
+    Greatest,
+    Any,
+}
+
+const WIDES: [(u64, Wide); 6] = [
+    (20, Wide::Least),
+    (30, Wide::AboveNeeded),
+    (10, Wide::GreatestSigned),
+    (20, Wide::Negative),
+    (10, Wide::Greatest),
+    (10, Wide::Any),
+];
+
+/// Of rows in the long form.
+const WIDE_PERCENT: u64 = 40;
+
 #[derive(Clone, Copy)]
 enum Spoiling {
     Operation,
@@ -198,18 +227,31 @@ const FIRST_KIND: Mix = Mix {
     ..ALL
 };
 
+/// In which forms records are written.
+#[derive(Clone, Copy)]
+enum Forms {
+    AtRandom,
+    /// In turn, this one next.
+    InTurn(Form),
+}
+
 pub struct Generator {
     random: Random,
     mix: Mix,
+    forms: Forms,
 }
 
 impl Generator {
     pub fn new(seed: u64) -> Generator {
-        Generator::with_sizes(seed, ALL.sizes)
+        Generator::of_mix(seed, ALL)
     }
 
-    pub fn with_sizes(seed: u64, sizes: Sizes) -> Generator {
-        Generator::of_mix(seed, Mix { sizes, ..ALL })
+    /// Records of these sizes, of which the first is short, the second long and so on.
+    pub fn alternating(seed: u64, sizes: Sizes) -> Generator {
+        Generator {
+            forms: Forms::InTurn(Form::Short),
+            ..Generator::of_mix(seed, Mix { sizes, ..ALL })
+        }
     }
 
     pub fn of_rows(seed: u64) -> Generator {
@@ -229,16 +271,26 @@ impl Generator {
     }
 
     fn of_mix(seed: u64, mix: Mix) -> Generator {
-        let random = Random::new(seed);
-        Generator { random, mix }
+        Generator {
+            random: Random::new(seed),
+            mix,
+            forms: Forms::AtRandom,
+        }
     }
 
-    pub fn records(&mut self, count: usize) -> Vec<Record> {
+    /// Records in the forms in which a stream is to have them.
+    pub fn written(&mut self, count: usize) -> Vec<Written> {
         (0..count).map(|_| self.record()).collect()
     }
 
-    fn record(&mut self) -> Record {
-        let mut record = self.sound_record();
+    /// The same where no stream is written.
+    pub fn records(&mut self, count: usize) -> Vec<Record> {
+        (0..count).map(|_| self.record().record).collect()
+    }
+
+    fn record(&mut self) -> Written {
+        let form = self.form();
+        let mut record = self.sound_record(form);
         if self.random.chance(self.mix.spoiled_percent) {
             // More than one fault tests the order of the refusals.
             let faults = self.random.weighted(&[(70, 1), (20, 2), (10, 3)]);
@@ -246,23 +298,43 @@ impl Generator {
                 self.spoil(&mut record);
             }
         }
-        record
+        Written { form, record }
+    }
+
+    fn form(&mut self) -> Form {
+        match self.forms {
+            Forms::AtRandom => self.random.pick(&Form::BOTH),
+            Forms::InTurn(form) => {
+                self.forms = Forms::InTurn(form.other());
+                form
+            }
+        }
     }
 
     /// A record that no refusal from 3 to 8 turns back, nor 11.
-    fn sound_record(&mut self) -> Record {
+    fn sound_record(&mut self, form: Form) -> Record {
         let operation = self.random.weighted(self.mix.operations);
         let size = self.random.weighted(self.mix.sizes);
-        self.sound_record_of(operation, size)
+        self.sound_record_of(form, operation, size)
     }
 
     /// A sound record that costs little, of one of these operations.
-    pub fn cheap_record(&mut self, operations: &[u8]) -> Record {
+    pub fn cheap_record(&mut self, form: Form, operations: &[u8]) -> Written {
         let operation = self.random.pick(operations);
-        self.sound_record_of(operation, Size::Small)
+        let record = self.sound_record_of(form, operation, Size::Small);
+        Written { form, record }
     }
 
-    fn sound_record_of(&mut self, operation: u8, size: Size) -> Record {
+    /// The same in either form.
+    pub fn cheap_records(&mut self, count: usize, operations: &[u8]) -> Vec<Written> {
+        let record = |_| {
+            let form = self.form();
+            self.cheap_record(form, operations)
+        };
+        (0..count).map(record).collect()
+    }
+
+    fn sound_record_of(&mut self, form: Form, operation: u8, size: Size) -> Record {
         let request = Request::of_operation(operation).expect("an operation from 1 to 8");
         let off_disc = request.is_radial().then(|| self.random.weighted(&OFF_DISC));
         let mut record = Record {
@@ -285,10 +357,10 @@ impl Generator {
             }
         }
         if request.is_row() {
-            record.allowance = self.allowance(&record, request);
+            record.allowance = self.allowance(form, &record, request);
             record.cv = self.random.any_double();
         } else {
-            record.allowance = self.random.bits() as u16;
+            record.allowance = self.random.bits() as u32 & form.largest_allowance();
             record.cv = self.characteristic_value(&record, request);
         }
         record
@@ -349,18 +421,46 @@ impl Generator {
         }
     }
 
-    fn allowance(&mut self, record: &Record, request: Request) -> u16 {
-        match self.random.below(100) {
-            0..65 => u16::MAX,
-            65..80 => self.random.between(140, 1000),
-            80..88 => self.random.between(55, 140),
-            88..90 => self.random.between(0, 55),
-            _ => {
-                let needed = needed_allowance(request.kind(), record.m, record.n, record.c);
-                let beside = self.random.pick(&[-1, 0, 0, 1]);
-                needed.saturating_add_signed(beside)
-            }
+    fn allowance(&mut self, form: Form, record: &Record, request: Request) -> u32 {
+        match form {
+            Form::Long if self.random.chance(WIDE_PERCENT) => self.wide_allowance(record, request),
+            Form::Short | Form::Long => self.narrow_allowance(record, request),
         }
+    }
+
+    fn narrow_allowance(&mut self, record: &Record, request: Request) -> u32 {
+        match self.random.below(100) {
+            0..65 => Form::Short.largest_allowance(),
+            65..80 => self.random.between(140, 1000).into(),
+            80..88 => self.random.between(55, 140).into(),
+            88..90 => self.random.between(0, 55).into(),
+            _ => self.needed_allowance(record, request, &[-1, 0, 0, 1]),
+        }
+    }
+
+    fn wide_allowance(&mut self, record: &Record, request: Request) -> u32 {
+        match self.random.weighted(&WIDES) {
+            Wide::Least => 1 << 16,
+            Wide::AboveNeeded => {
+                let any = self.random.between(1, u16::MAX);
+                let upper = u32::from(self.random.pick(&[1, any]));
+                let needed = self.needed_allowance(record, request, &[-1, -1, 0, 1]);
+                (upper << 16) + needed
+            }
+            Wide::GreatestSigned => (1 << 31) - 1,
+            Wide::Negative => {
+                let some = self.random.between(1, 140);
+                (1 << 31) + u32::from(self.random.pick(&[0, some]))
+            }
+            Wide::Greatest => Form::Long.largest_allowance(),
+            Wide::Any => self.random.bits() as u32,
+        }
+    }
+
+    /// The least allowance that suffices, with one of these added.
+    fn needed_allowance(&mut self, record: &Record, request: Request, beside: &[i32]) -> u32 {
+        let needed = needed_allowance(request.kind(), record.m, record.n, record.c);
+        needed.saturating_add_signed(self.random.pick(beside))
     }
 
     fn argument(&mut self, request: Request) -> f64 {

@@ -3,23 +3,27 @@
 mod checks;
 mod comparison;
 mod damaged;
+// The soak and the tests of the library use the rest of it.
+#[allow(dead_code)]
 mod generator;
 mod known;
 mod landed;
+mod pieces;
 mod program;
 mod random;
+mod replay;
 mod tally;
 
 use std::io::Write;
 use std::process::ExitCode;
 
-use oracle::answer::{Build, Route, record_lines, route, stream_lines};
-use oracle::record::Record;
+use oracle::answer::{Build, Route, record_lines, route};
+use oracle::record::{Form, Written};
 
 use checks::OwnChecks;
-use comparison::{Comparison, stream_has_landed};
+use comparison::Comparison;
 use generator::Generator;
-use known::Input;
+use known::{Input, Known};
 use landed::{CLASSES, DAMAGED_STREAMS, any_landed, class_of, has_landed, landed_operations};
 use program::Program;
 use tally::Tally;
@@ -27,11 +31,6 @@ use tally::Tally;
 const USAGE: &str = "usage: compare [--records] [N] [SEED] [rows | small-c | radial | first-kind] | \
     compare --replay [N] [SEED]";
 const KNOWN_RECORDS: &str = "tests/oracle/traps.txt";
-/// Where the gate finds what it replays: one long stream, and many short ones.
-const REPLAY: &str = "crates/spheroidal";
-const REPLAY_STREAMS: &str = "crates/damaged_streams";
-/// The test program reads its streams at once.
-const MOST_STREAM_BYTES: usize = 65_536;
 const DEFAULT_RECORDS: usize = 20_000;
 const DEFAULT_SEED: u64 = 20_261_114;
 
@@ -67,7 +66,7 @@ enum Task {
     Compare,
     /// Write the records and compare nothing.
     Records,
-    /// Write the stream and the lines that the gate replays.
+    /// Write the streams and the lines that the gate replays.
     Replay,
 }
 
@@ -129,8 +128,10 @@ fn run(arguments: Arguments) -> Result<ExitCode, String> {
         return write_records(&mut generator, arguments.records);
     }
     let file = std::fs::read_to_string(KNOWN_RECORDS).map_err(|error| error.to_string())?;
+    let known = known::parse(&file)?;
     if arguments.task == Task::Replay {
-        return write_replay(&mut generator, arguments.records, &file);
+        replay::write(&mut generator, arguments.records, known)?;
+        return Ok(ExitCode::SUCCESS);
     }
     let program = if any_landed() {
         Some(Program::find()?)
@@ -142,77 +143,25 @@ fn run(arguments: Arguments) -> Result<ExitCode, String> {
         comparison: Comparison::new(program),
     };
     run.own.check_example();
-    run.known_records(&file)?;
+    run.known_records(known);
     let fresh = run.fresh_records(&mut generator, arguments.records);
-    for stream in damaged::damaged_streams(&mut generator, &landed_operations()) {
+    let operations = landed_operations();
+    for stream in damaged::damaged_streams(&mut generator, &operations) {
         run.comparison.compare_damaged(&stream);
+    }
+    for pieces in pieces::streams_in_pieces(&mut generator, arguments.seed, &operations) {
+        run.comparison.compare_pieces(&pieces);
     }
     Ok(run.report(&arguments, &fresh))
 }
 
 fn write_records(generator: &mut Generator, count: usize) -> Result<ExitCode, String> {
-    let bytes: Vec<u8> = generator
-        .records(count)
-        .iter()
-        .flat_map(Record::to_bytes)
-        .collect();
+    let records = generator.written(count);
+    let bytes: Vec<u8> = records.iter().flat_map(Written::to_bytes).collect();
     std::io::stdout()
         .write_all(&bytes)
         .map_err(|error| error.to_string())?;
     Ok(ExitCode::SUCCESS)
-}
-
-/// Document 01's example, the known records and N fresh ones, as far as their operations have landed,
-/// and at the end a record that is cut short; and the short streams.
-fn write_replay(generator: &mut Generator, count: usize, file: &str) -> Result<ExitCode, String> {
-    let mut records = checks::example_records().to_vec();
-    let mut streams = Vec::new();
-    for known in known::parse(file)? {
-        match known.input {
-            Input::Record(record) => records.push(record),
-            Input::Stream(stream) => streams.push(stream),
-        }
-    }
-    records.extend(generator.records(count));
-    records.retain(|record| has_landed(class_of(record.operation)));
-    let mut stream: Vec<u8> = records.iter().flat_map(Record::to_bytes).collect();
-    stream.extend(&records[0].to_bytes()[..20]);
-    let lines = stream_lines(Build::PowerRule, &stream);
-    write_pair(REPLAY, &stream, &lines)?;
-    println!("{} records, {} lines", records.len(), lines.lines().count());
-    let operations = landed_operations();
-    streams.extend(damaged::damaged_streams(generator, &operations));
-    streams.extend(damaged::streams_of_other_operations(generator, &operations));
-    streams.retain(|stream| stream_has_landed(stream));
-    write_streams(&streams)?;
-    Ok(ExitCode::SUCCESS)
-}
-
-/// Each stream after its length in two bytes, and its lines after a line `S` with its number.
-fn write_streams(streams: &[Vec<u8>]) -> Result<(), String> {
-    let mut input = Vec::new();
-    let mut lines = String::new();
-    for (number, stream) in streams.iter().enumerate() {
-        let length = u16::try_from(stream.len()).map_err(|error| error.to_string())?;
-        input.extend(length.to_le_bytes());
-        input.extend(stream);
-        lines += &format!("S {number}\n");
-        lines += &stream_lines(Build::PowerRule, stream);
-    }
-    if input.len() > MOST_STREAM_BYTES {
-        return Err(format!("the streams have {} bytes", input.len()));
-    }
-    write_pair(REPLAY_STREAMS, &input, &lines)?;
-    println!("{} streams, {} bytes", streams.len(), input.len());
-    Ok(())
-}
-
-fn write_pair(folder: &str, input: &[u8], lines: &str) -> Result<(), String> {
-    let write = |name: &str, bytes: &[u8]| {
-        std::fs::write(format!("{folder}/{name}"), bytes).map_err(|error| error.to_string())
-    };
-    write("stdin", input)?;
-    write("stdout", lines.as_bytes())
 }
 
 struct Run {
@@ -225,6 +174,10 @@ struct Run {
 struct Figures {
     /// Records that were not refused.
     accepted: usize,
+    /// Records in the long form.
+    long: usize,
+    /// Accepted rows with an allowance that the short form has no room for.
+    wide: usize,
     z_lines: usize,
     /// `Z` lines with 1: too few of them would test nothing.
     substituted: usize,
@@ -257,11 +210,14 @@ impl RadialFigures {
 }
 
 impl Figures {
-    fn add(&mut self, record: &Record, lines: &str) {
+    fn add(&mut self, Written { form, record }: &Written, lines: &str) {
         match refusal_of(lines) {
             Some(number) => self.refused[number] += 1,
             None => self.accepted += 1,
         }
+        self.long += usize::from(*form == Form::Long);
+        let wide = record.allowance > Form::Short.largest_allowance();
+        self.wide += usize::from(wide && lines.starts_with(['V', 'D']));
         for line in lines.lines().filter(|line| line.starts_with('Z')) {
             self.z_lines += 1;
             self.substituted += usize::from(line.ends_with(" 1"));
@@ -280,6 +236,10 @@ impl Figures {
     }
 
     fn print(&self) {
+        println!(
+            "{} in the long form, {} accepted rows with an allowance above 65535",
+            self.long, self.wide
+        );
         println!(
             "{} Z lines, {} of them with 1",
             self.z_lines, self.substituted
@@ -319,24 +279,24 @@ fn is_special(word: &str) -> bool {
 }
 
 impl Run {
-    fn known_records(&mut self, file: &str) -> Result<(), String> {
+    /// Each record in every form that has room for its allowance.
+    fn known_records(&mut self, known: Vec<Known>) {
         let mut records = Vec::new();
-        for known in known::parse(file)? {
+        for known in known {
             self.own.check_known(&known);
             match known.input {
-                Input::Record(record) => records.push(record),
+                Input::Record(record) => records.extend(record.in_each_form()),
                 Input::Stream(stream) => self.comparison.compare_damaged(&stream),
             }
         }
         self.records(&records, &mut Figures::default());
-        Ok(())
     }
 
     fn fresh_records(&mut self, generator: &mut Generator, count: usize) -> Figures {
         let mut figures = Figures::default();
         let mut left = count;
         while left > 0 {
-            let records = generator.records(left.min(STREAM_RECORDS));
+            let records = generator.written(left.min(STREAM_RECORDS));
             left -= records.len();
             self.records(&records, &mut figures);
         }
@@ -344,15 +304,16 @@ impl Run {
     }
 
     /// Checks and compares records.
-    fn records(&mut self, records: &[Record], figures: &mut Figures) {
+    fn records(&mut self, records: &[Written], figures: &mut Figures) {
         let mut sent = Vec::new();
         let mut expected = Vec::new();
-        for record in records {
+        for written in records {
+            let record = &written.record;
             let lines = record_lines(Build::PowerRule, sent.len(), record);
             self.own.check_record(record, &lines);
-            figures.add(record, &lines);
+            figures.add(written, &lines);
             if has_landed(class_of(record.operation)) {
-                sent.push(*record);
+                sent.push(*written);
                 expected.push(lines);
             } else {
                 self.comparison.not_compared[class_of(record.operation)] += 1;
@@ -417,15 +378,18 @@ impl Run {
         }
         if any_landed() {
             self.comparison.streams.print();
+            self.comparison.pieces.print();
         }
     }
 
     fn tallies(&self) -> Vec<&Tally> {
-        let compared = self
-            .comparison
-            .classes
-            .iter()
-            .chain([&self.comparison.streams]);
+        let Comparison {
+            classes,
+            streams,
+            pieces,
+            ..
+        } = &self.comparison;
+        let compared = classes.iter().chain([streams, pieces]);
         self.own.tallies().into_iter().chain(compared).collect()
     }
 }

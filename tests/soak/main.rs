@@ -1,4 +1,4 @@
-//! One long stream into our program and into the oracle at once. Each side's lines become checksums
+//! One long stream, of both forms in turn, into our program and into the oracle at once. Each side's lines become checksums
 //! as they come, so that nothing is kept; the memory of our program is watched meanwhile.
 
 #[allow(dead_code)]
@@ -24,7 +24,7 @@ use std::thread;
 use generator::{Generator, Size, Sizes};
 use landed::PROGRAM;
 use oracle::answer::{Build, record_lines};
-use oracle::record::Record;
+use oracle::record::Written;
 use sums::Sums;
 use tally::Tally;
 
@@ -33,7 +33,8 @@ const DEFAULT_RECORDS: u64 = 10_000_000;
 const DEFAULT_SEED: u64 = 20_261_116;
 const NOT_RUN: u8 = 2;
 
-/// Each block of records has a generator of its own, so that one can be made again alone.
+/// Each block of records has a generator of its own, so that one can be made again alone. As it is even,
+/// the forms alternate from block to block too.
 pub const BLOCK: u64 = 100_000;
 /// Records handed on at once, and how many such pieces may wait for the oracle.
 const PIECE: u64 = 500;
@@ -74,17 +75,17 @@ fn main() -> ExitCode {
 }
 
 fn generator(seed: u64, block: u64) -> Generator {
-    Generator::with_sizes(seed.wrapping_add(block), SIZES)
+    Generator::alternating(seed.wrapping_add(block), SIZES)
 }
 
-fn bytes(records: &[Record]) -> Vec<u8> {
-    records.iter().flat_map(Record::to_bytes).collect()
+fn bytes(records: &[Written]) -> Vec<u8> {
+    records.iter().flat_map(Written::to_bytes).collect()
 }
 
 /// The records of some blocks, the last of them whole, to standard output.
 fn write_blocks(first: u64, last: u64, seed: u64) -> Result<ExitCode, String> {
     for block in first..=last {
-        let records = generator(seed, block).records(BLOCK as usize);
+        let records = generator(seed, block).written(BLOCK as usize);
         let written = io::stdout().write_all(&bytes(&records));
         written.map_err(|error| error.to_string())?;
     }
@@ -136,7 +137,7 @@ fn soak(count: u64, seed: u64) -> Result<ExitCode, String> {
 /// Hands every record to both sides, and looks at our program's memory on the way.
 fn feed(
     program: &mut Child,
-    oracle: &SyncSender<Vec<Record>>,
+    oracle: &SyncSender<Vec<Written>>,
     count: u64,
     seed: u64,
 ) -> (Vec<(u64, Option<u64>)>, io::Result<()>) {
@@ -147,7 +148,7 @@ fn feed(
         let mut generator = generator(seed, fed / BLOCK);
         let end = count.min(fed + BLOCK);
         while fed < end {
-            let records = generator.records(PIECE.min(end - fed) as usize);
+            let records = generator.written(PIECE.min(end - fed) as usize);
             fed += records.len() as u64;
             let input = program.stdin.as_mut().expect("it was asked for");
             if let Err(error) = input.write_all(&bytes(&records)) {
@@ -187,10 +188,10 @@ fn program_sums(lines: ChildStdout, count: u64) -> (Sums, io::Result<()>) {
     }
 }
 
-fn oracle_sums(pieces: Receiver<Vec<Record>>, count: u64) -> Sums {
+fn oracle_sums(pieces: Receiver<Vec<Written>>, count: u64) -> Sums {
     let mut sums = Sums::new(count);
-    for (number, record) in pieces.into_iter().flatten().enumerate() {
-        let lines = record_lines(Build::PowerRule, number, &record);
+    for (number, written) in pieces.into_iter().flatten().enumerate() {
+        let lines = record_lines(Build::PowerRule, number, &written.record);
         lines
             .split_inclusive('\n')
             .for_each(|line| sums.add(line.as_bytes()));

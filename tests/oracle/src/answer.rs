@@ -3,7 +3,7 @@
 use std::fmt::Write;
 
 use crate::reading;
-use crate::record::{Kind, LENGTH, MARK, Record, Request, hex, same};
+use crate::record::{Form, Kind, Record, Request, hex, same};
 use crate::xsf::specfun::{served, unaltered};
 
 /// Which build gives the angular pair and the radial functions; all else is by the unaltered text.
@@ -181,21 +181,24 @@ pub fn cbk(record: &Record, qt: f64, ck: &[f64]) -> [f64; 200] {
     unaltered::cbk_places(m, n, record.c, record.cv, qt, ck)
 }
 
-/// The next record of a stream, or the refusal that stops it; none at its end.
+/// The next record of a stream, or the refusal that stops it; none at its end. A mark that is not
+/// there in full comes first, then a wrong mark, then what the right one's record lacks.
 pub fn next_record(stream: &mut &[u8]) -> Option<Result<Record, u8>> {
-    let rest = *stream;
-    *stream = &[];
+    let rest = std::mem::take(stream);
     if rest.is_empty() {
         return None;
     }
-    let Some((bytes, after)) = rest.split_first_chunk::<LENGTH>() else {
+    let Some(&mark) = rest.first_chunk() else {
         return Some(Err(1));
     };
-    if bytes[..MARK.len()] != MARK {
+    let Some(form) = Form::of_mark(mark) else {
         return Some(Err(2));
-    }
+    };
+    let Some((bytes, after)) = rest.split_at_checked(form.length()) else {
+        return Some(Err(1));
+    };
     *stream = after;
-    Some(Ok(Record::from_bytes(bytes)))
+    Some(Ok(Record::from_bytes(form, bytes)))
 }
 
 /// The lines of a whole stream.

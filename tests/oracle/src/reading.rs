@@ -20,6 +20,8 @@ const LEAST_SEARCHED_ARGUMENT: f64 = 1e-100;
 const ZERO_PARAMETER: f64 = 1e-10;
 const TOLERANCE: f64 = 1e-14;
 const PIVOT_SUBSTITUTE: f64 = 1e-30;
+/// More steps than any place is known to take.
+const ENOUGH_STEPS: u32 = 65_535;
 
 /// H: (n - m)/2 + c in doubles.
 pub fn half_offset_plus_c(m: u16, n: u16, c: f64) -> f64 {
@@ -126,7 +128,7 @@ pub fn row(
     m: u16,
     n: u16,
     c: f64,
-    allowance: u16,
+    allowance: u32,
 ) -> Result<Vec<RowValue>, OutOfSteps> {
     if c < ZERO_PARAMETER {
         return Ok((m..=n).map(zero_parameter_value).collect());
@@ -147,13 +149,13 @@ pub fn eigenvalue(kind: Kind, value: f64, c: f64) -> f64 {
 }
 
 /// The least allowance with which a row is not refused 10, for choosing records at that edge.
-pub fn needed_allowance(kind: Kind, m: u16, n: u16, c: f64) -> u16 {
+pub fn needed_allowance(kind: Kind, m: u16, n: u16, c: f64) -> u32 {
     if c < ZERO_PARAMETER {
         return 0;
     }
-    let places = families(kind, m, n, c, u16::MAX).expect("65535 steps suffice");
+    let places = families(kind, m, n, c, ENOUGH_STEPS).expect("enough steps");
     let most = places.iter().flatten().map(|place| place.steps).max();
-    most.expect("at least one place") as u16
+    most.expect("at least one place")
 }
 
 fn families(
@@ -161,7 +163,7 @@ fn families(
     m: u16,
     n: u16,
     c: f64,
-    allowance: u16,
+    allowance: u32,
 ) -> Result<[Vec<RowValue>; 2], OutOfSteps> {
     let even = family(kind, Parity::Even, m, n, c, allowance)?;
     let odd = family(kind, Parity::Odd, m, n, c, allowance)?;
@@ -293,7 +295,7 @@ fn family(
     m: u16,
     n: u16,
     c: f64,
-    allowance: u16,
+    allowance: u32,
 ) -> Result<Vec<RowValue>, OutOfSteps> {
     let entries = entries(kind, parity, m, n, c);
     let fresh = Place {
@@ -325,9 +327,9 @@ fn bisect(
     entries: &[Entry],
     places: &mut [Place],
     number: usize,
-    allowance: u16,
+    allowance: u32,
 ) -> Result<RowValue, OutOfSteps> {
-    for steps in 1..=u32::from(allowance) {
+    for steps in 1..=allowance {
         let Place {
             bracket: Bracket { lower, upper },
             substituted,

@@ -1,12 +1,54 @@
-//! Records as document 01 has them, and the text of doubles.
+//! Records as document 01 and document 02's Card 6 have them, and the text of doubles.
 
 use std::fmt;
 
-/// Length of a record in bytes.
-pub const LENGTH: usize = 33;
+/// Length of the mark that begins a record.
+pub const MARK_LENGTH: usize = 2;
 
-/// The mark that begins a record.
-pub const MARK: [u8; 2] = [0x53, 0x57];
+/// How a record is written: as document 01 has it, or as Card 6 does, with an allowance of 32 bits.
+#[derive(Clone, Copy, Debug, PartialEq, Eq)]
+pub enum Form {
+    Short,
+    Long,
+}
+
+impl Form {
+    pub const BOTH: [Form; 2] = [Form::Short, Form::Long];
+
+    /// None where neither mark stands there.
+    pub fn of_mark(mark: [u8; MARK_LENGTH]) -> Option<Form> {
+        Form::BOTH.into_iter().find(|form| form.mark() == mark)
+    }
+
+    pub fn mark(self) -> [u8; MARK_LENGTH] {
+        match self {
+            Form::Short => [0x53, 0x57],
+            Form::Long => [0x53, 0x56],
+        }
+    }
+
+    /// Length of a record in bytes, its mark included.
+    pub fn length(self) -> usize {
+        match self {
+            Form::Short => 33,
+            Form::Long => 35,
+        }
+    }
+
+    pub fn largest_allowance(self) -> u32 {
+        match self {
+            Form::Short => 65_535,
+            Form::Long => 4_294_967_295,
+        }
+    }
+
+    pub fn other(self) -> Form {
+        match self {
+            Form::Short => Form::Long,
+            Form::Long => Form::Short,
+        }
+    }
+}
 
 /// Prolate or oblate, the sign kd of document 01.
 #[derive(Clone, Copy, Debug, PartialEq, Eq)]
@@ -73,43 +115,50 @@ pub struct Record {
     pub operation: u8,
     pub m: u16,
     pub n: u16,
-    pub allowance: u16,
+    pub allowance: u32,
     pub c: f64,
     pub cv: f64,
     pub x: f64,
 }
 
 impl Record {
-    /// The fields after a mark already tested.
-    pub fn from_bytes(bytes: &[u8; LENGTH]) -> Record {
-        let short = |at: usize| u16::from_le_bytes([bytes[at], bytes[at + 1]]);
-        let double = |at: usize| {
-            let eight = bytes[at..at + 8].try_into().expect("eight bytes");
-            f64::from_bits(u64::from_le_bytes(eight))
-        };
+    /// The fields after a mark already tested, of as many bytes as its form has.
+    pub fn from_bytes(form: Form, bytes: &[u8]) -> Record {
+        let rest = &mut &bytes[MARK_LENGTH..];
         Record {
-            operation: bytes[2],
-            m: short(3),
-            n: short(5),
-            allowance: short(7),
-            c: double(9),
-            cv: double(17),
-            x: double(25),
+            operation: u8::from_le_bytes(take(rest)),
+            m: u16::from_le_bytes(take(rest)),
+            n: u16::from_le_bytes(take(rest)),
+            allowance: match form {
+                Form::Short => u16::from_le_bytes(take(rest)).into(),
+                Form::Long => u32::from_le_bytes(take(rest)),
+            },
+            c: f64::from_le_bytes(take(rest)),
+            cv: f64::from_le_bytes(take(rest)),
+            x: f64::from_le_bytes(take(rest)),
         }
     }
 
-    pub fn to_bytes(&self) -> [u8; LENGTH] {
-        let mut bytes = [0; LENGTH];
-        bytes[..2].copy_from_slice(&MARK);
-        bytes[2] = self.operation;
-        bytes[3..5].copy_from_slice(&self.m.to_le_bytes());
-        bytes[5..7].copy_from_slice(&self.n.to_le_bytes());
-        bytes[7..9].copy_from_slice(&self.allowance.to_le_bytes());
-        bytes[9..17].copy_from_slice(&self.c.to_bits().to_le_bytes());
-        bytes[17..25].copy_from_slice(&self.cv.to_bits().to_le_bytes());
-        bytes[25..].copy_from_slice(&self.x.to_bits().to_le_bytes());
-        bytes
+    /// In each form that has room for the allowance, the shorter first.
+    pub fn in_each_form(&self) -> impl Iterator<Item = Written> {
+        let record = *self;
+        let forms = Form::BOTH.into_iter();
+        let fitting = forms.filter(move |form| record.allowance <= form.largest_allowance());
+        fitting.map(move |form| Written { form, record })
     }
+
+    /// In the shortest form that has room for the allowance.
+    pub fn to_bytes(&self) -> Vec<u8> {
+        let shortest = self.in_each_form().next();
+        shortest.expect("the long form has room").to_bytes()
+    }
+}
+
+/// The next bytes of a record that is known to be whole.
+fn take<const N: usize>(rest: &mut &[u8]) -> [u8; N] {
+    let (taken, after) = rest.split_first_chunk().expect("a whole record");
+    *rest = after;
+    *taken
 }
 
 /// Decoded for a reader: each double in decimal and, in brackets, as its bits.
@@ -124,6 +173,41 @@ impl fmt::Display for Record {
             write!(out, " {name} {value:?} [{:016x}]", value.to_bits())?;
         }
         Ok(())
+    }
+}
+
+/// A record in the form in which a stream has it.
+#[derive(Clone, Copy, Debug)]
+pub struct Written {
+    pub form: Form,
+    pub record: Record,
+}
+
+impl Written {
+    /// Panics where the form has no room for the allowance.
+    pub fn to_bytes(&self) -> Vec<u8> {
+        let Written { form, record } = self;
+        let mut bytes = form.mark().to_vec();
+        bytes.push(record.operation);
+        bytes.extend(record.m.to_le_bytes());
+        bytes.extend(record.n.to_le_bytes());
+        match form {
+            Form::Short => {
+                let allowance = u16::try_from(record.allowance).expect("an allowance of 16 bits");
+                bytes.extend(allowance.to_le_bytes());
+            }
+            Form::Long => bytes.extend(record.allowance.to_le_bytes()),
+        }
+        for value in [record.c, record.cv, record.x] {
+            bytes.extend(value.to_le_bytes());
+        }
+        bytes
+    }
+}
+
+impl fmt::Display for Written {
+    fn fmt(&self, out: &mut fmt::Formatter<'_>) -> fmt::Result {
+        write!(out, "{:?} record, {}", self.form, self.record)
     }
 }
 
