@@ -40,7 +40,7 @@ pub struct Reading {
 // Writes the lines of all whole records that are there.
 fn answer_arrived(to: i32, input: &[u8], first: u64, out: &mut [u8]) -> Arrived
     requires { ⌜ (longest ≤ length (now out)) × (length (now input) < 4294967296) × (first < 9223372036854775808) ⌝ }
-    ensures { λ r. ⌜ length (now (out .exit)) ≡ length (now (out .entry)) ⌝ }
+    ensures { λ _. ⌜ length (now (out .exit)) ≡ length (now (out .entry)) ⌝ }
     ensures { λ r. ⌜ Answers (now (input .entry)) (length (now (out .entry))) first r ⌝ }
 {
     let mut index = first;
@@ -92,7 +92,7 @@ fn answer_end(to: i32, input: &[u8], index: u64, out: &mut [u8]) -> bool
 fn read_behind(from: i32, buffer: &mut [u8], held: usize) -> usize
     requires { ⌜ held < length (now buffer) ⌝ }
     ensures { λ r. ⌜ held + r ≤ length (now (buffer .entry)) ⌝ }
-    ensures { λ r. ⌜ (length (now (buffer .exit)) ≡ length (now (buffer .entry))) × (take held (now (buffer .exit)) ≡ take held (now (buffer .entry))) ⌝ }
+    ensures { λ _. ⌜ (length (now (buffer .exit)) ≡ length (now (buffer .entry))) × (take held (now (buffer .exit)) ≡ take held (now (buffer .entry))) ⌝ }
 {
     let rest = &mut buffer[held..];
     let got = libc::read(from, rest);
@@ -116,7 +116,7 @@ fn keep(buffer: &mut [u8], at: usize, end: usize)
 fn take_reading(from: i32, to: i32, buffer: &mut [u8], out: &mut [u8], before: Reading) -> Reading
     requires { ⌜ (35 ≤ length (now buffer)) × (length (now buffer) < 4294967296) × (longest ≤ length (now out)) × (before .bytes < 9223372036854775808) ⌝ }
     requires { ⌜ Keeps (length (now out)) (now buffer) before ⌝ }
-    ensures { λ r. ⌜ (length (now (buffer .exit)) ≡ length (now (buffer .entry))) × (length (now (out .exit)) ≡ length (now (out .entry))) ⌝ }
+    ensures { λ _. ⌜ (length (now (buffer .exit)) ≡ length (now (buffer .entry))) × (length (now (out .exit)) ≡ length (now (out .entry))) ⌝ }
     ensures { λ r. ⌜ r .bytes ≡ before .bytes + r .got ⌝ }
     ensures { λ r. ⌜ (Goes r → Keeps (length (now (out .entry))) (now (buffer .exit)) r) ⌝ }
 {
