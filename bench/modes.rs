@@ -109,7 +109,7 @@ impl Mode {
                 operation: 0,
                 m: self.m,
                 n: self.n,
-                allowance: u16::MAX,
+                allowance: u32::MAX,
                 c,
                 cv: row[row.len() - 1],
                 x: 0.0,

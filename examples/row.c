@@ -5,6 +5,7 @@
  *   s=target/spheroidal
  *   cc examples/row.c -I$s/include -L$s/lib -lspheroidal_c -o target/row && target/row
  */
+#include <inttypes.h>
 #include <stdio.h>
 
 #include "spheroidal.h"
@@ -14,7 +15,7 @@ int main(void) {
     const double c = 2.5;
     double values[SPHEROIDAL_ROW_PLACES], lowers[SPHEROIDAL_ROW_PLACES];
     double uppers[SPHEROIDAL_ROW_PLACES];
-    uint16_t steps[SPHEROIDAL_ROW_PLACES];
+    uint32_t steps[SPHEROIDAL_ROW_PLACES];
     uint8_t substituted[SPHEROIDAL_ROW_PLACES];
 
     uint8_t answer = spheroidal_oblate_row(
@@ -28,7 +29,7 @@ int main(void) {
     printf("Oblate modes %d to %d with m = %d, c = %g\n", m, n, m, c);
     printf("mode         characteristic value  steps  zero pivot\n");
     for (int j = 0; j <= n - m; j++) {
-        printf("%4d  %27.17g  %5d  %10s\n", m + j, values[j], steps[j],
+        printf("%4d  %27.17g  %5" PRIu32 "  %10s\n", m + j, values[j], steps[j],
                substituted[j] ? "yes" : "no");
     }
 

@@ -12,8 +12,8 @@ m is the order, n the degree, c the size parameter. dlmf is the row as DLMF has 
 for prolate modes, plus c * c for oblate ones. x is one number or start:stop:count. radial is both oblate
 radial functions, first is the first of them alone, at any finite x from zero on, with c x up to 200; x=0
 is the disc, and radial takes it where x is left out. cv is the characteristic value: where it is left
-out, it is taken from the mode's row. allowance is the most steps for each value of a row, 65535 if left
-out. A number is decimal, or 0x and the 16 digits of a double's bits.
+out, it is taken from the mode's row. allowance is the most steps for each value of a row, from 0 to
+4294967295, and 65535 if left out. A number is decimal, or 0x and the 16 digits of a double's bits.
 
 In a row, zero pivot says whether 1e-30 was put in for a pivot of zero while the value was bisected.
 That is no error, and common at small c.
@@ -32,9 +32,11 @@ import ctypes
 import math
 import os
 import re
+import select
 import struct
 import subprocess
 import sys
+import time
 from pathlib import Path
 
 sys.dont_write_bytecode = True  # nothing is written beside the sources
@@ -90,6 +92,13 @@ REFUSALS = {
 }
 # How many words follow the record's number on a line.
 WORDS = {"V": 5, "Z": 2, "D": 2, "A": 4, "F": 6, "G": 4, "R": 1}
+# How many lines an accepted row has for each mode, by its operation.
+LINES_OF_MODE = {1: 2, 2: 2, 6: 1, 7: 1}
+# What two bytes hold, and what four; an allowance above the first is written in a record of the longer kind.
+LARGEST_SHORT = 65535
+LARGEST_ALLOWANCE = 4294967295
+# Where none is given. No row is known to need more than 132 steps, and older programs read the record.
+ALLOWANCE = LARGEST_SHORT
 # An oblate mode whose eigenvalue is c * c; a program from before that rule answers -c * c.
 PROBE = {"m": 0, "n": 0, "c": 1e-11, "allowance": 0}
 # What the last word of a line Z means.
@@ -112,9 +121,13 @@ class Refused(Exception):
         return f"refused {number}: {reason[what] if isinstance(reason, dict) else reason}"
 
 
-def whole(word):
-    if not re.fullmatch("[0-9]{1,5}", word) or int(word) > 65535:
-        raise ValueError("a whole number from 0 to 65535")
+def older(program, said):
+    return Misunderstood(f"{program} {said}: it may be older than this client\n{MADE_BY}")
+
+
+def whole(word, most=LARGEST_SHORT):
+    if not re.fullmatch(f"[0-9]{{1,{len(str(most))}}}", word) or int(word) > most:
+        raise ValueError(f"a whole number from 0 to {most}")
     return int(word)
 
 
@@ -143,7 +156,14 @@ def points(word):
     return [start + (stop - start) * at / last for at in range(last)] + [stop]
 
 
-READERS = {"m": whole, "n": whole, "allowance": whole, "c": number, "cv": number, "x": points}
+READERS = {
+    "m": whole,
+    "n": whole,
+    "allowance": lambda word: whole(word, LARGEST_ALLOWANCE),
+    "c": number,
+    "cv": number,
+    "x": points,
+}
 
 
 def fields_of(what, words):
@@ -172,8 +192,9 @@ def double(digits):
 
 
 def record(operation, fields, cv=0.0, x=0.0):
-    m, n, allowance = fields["m"], fields["n"], fields.get("allowance", 65535)
-    return b"SW" + struct.pack("<BHHHddd", operation, m, n, allowance, fields["c"], cv, x)
+    m, n, allowance = fields["m"], fields["n"], fields.get("allowance", ALLOWANCE)
+    mark, form = (b"SW", "<BHHHddd") if allowance <= LARGEST_SHORT else (b"SV", "<BHHIddd")
+    return mark + struct.pack(form, operation, m, n, allowance, fields["c"], cv, x)
 
 
 def ask(program, records):
@@ -184,31 +205,105 @@ def ask(program, records):
     except (OSError, subprocess.CalledProcessError) as error:
         raise Misunderstood(f"{error}\n{MADE_BY}") from None
     answers = [[] for _ in records]
-    try:
-        for line in done.stdout.decode("ascii").splitlines():
-            letter, at, *rest = line.split()
-            if len(rest) != WORDS[letter]:
-                raise ValueError
-            answers[int(at)].append([letter, *rest])
-    except (ValueError, LookupError):
-        raise Misunderstood(f"{program} does not answer as the record program does") from None
+    for line in done.stdout.splitlines():
+        at, words = parsed(program, line)
+        if not 0 <= at < len(records):
+            raise unlike(program)
+        answers[at].append(words)
+    answers = [joined(program, lines) for lines in answers]
     if not all(answers):
         raise Misunderstood(f"{program} did not answer every record")
-    return [joined(program, lines) for lines in answers]
+    return answers
+
+
+def unlike(program):
+    return Misunderstood(f"{program} does not answer as the record program does")
+
+
+def parsed(program, line):
+    """A line's record number, and its words without it."""
+    try:
+        letter, at, *rest = line.decode("ascii").split()
+        if len(rest) != WORDS[letter]:
+            raise ValueError
+        return int(at), [letter, *rest]
+    except (ValueError, LookupError):
+        raise unlike(program) from None
 
 
 def joined(program, lines):
     """A record's lines, each Z joined to the V before it."""
+    if lines == [["R", "2"]]:
+        raise older(program, f"does not know records with an allowance above {LARGEST_SHORT}")
     answer, left = [], iter(lines)
     for line in left:
         if line[0] in "VZ":
             after = next(left, [])
             if [line[0], *after[:2]] != ["V", "Z", line[1]] or after[2] not in ZERO_PIVOT:
-                said = f"{program} does not print a V and a Z line for mode {line[1]}"
-                raise Misunderstood(f"{said}: it may be older than this client\n{MADE_BY}")
+                raise older(program, f"does not print a V and a Z line for mode {line[1]}")
             line = [*line, after[2]]
         answer.append(line)
     return answer
+
+
+class Session:
+    """The record program kept running and asked record by record, for programs that measure and ask in
+    turn. An answer may take so many seconds."""
+
+    def __init__(self, program=str(PROGRAM), seconds=10.0):
+        self.program, self.seconds, self.asked, self.held = program, seconds, 0, b""
+        try:
+            self.process = subprocess.Popen(
+                [program], bufsize=0, stdin=subprocess.PIPE, stdout=subprocess.PIPE
+            )
+        except OSError as error:
+            raise Misunderstood(f"{error}\n{MADE_BY}") from None
+
+    def ask(self, record):
+        """The record's lines, as the function `ask` gives them."""
+        until = time.monotonic() + self.seconds
+        try:
+            self.process.stdin.write(record)
+        except BrokenPipeError:
+            raise Misunderstood(f"{self.program} has ended") from None
+        lines = [self.line(until)]
+        while lines[0][0] != "R" and len(lines) < line_count(record):
+            lines.append(self.line(until))
+        self.asked += 1
+        return joined(self.program, lines)
+
+    def line(self, until):
+        """The words of the next line, which is waited for until then."""
+        while b"\n" not in self.held:
+            left = max(0.0, until - time.monotonic())
+            if not select.select([self.process.stdout], [], [], left)[0]:
+                raise older(self.program, f"did not answer a record within {self.seconds:g} seconds")
+            read = self.process.stdout.read(65536)
+            if not read:
+                raise Misunderstood(f"{self.program} has ended")
+            self.held += read
+        line, _, self.held = self.held.partition(b"\n")
+        at, words = parsed(self.program, line)
+        if at != self.asked:
+            raise unlike(self.program)
+        return words
+
+    def close(self):
+        self.process.stdin.close()
+        self.process.stdout.close()
+        self.process.wait()
+
+    def __enter__(self):
+        return self
+
+    def __exit__(self, *_):
+        self.close()
+
+
+def line_count(record):
+    """How many lines a record has where it is accepted."""
+    operation, m, n = struct.unpack_from("<BHH", record, 2)
+    return LINES_OF_MODE[operation] * (n - m + 1) if operation in LINES_OF_MODE else 1
 
 
 def ask_row(program, what, kind, fields):
@@ -220,8 +315,7 @@ def ask_row(program, what, kind, fields):
     lines, *probes = ask(program, records)
     for [[letter, *words]] in probes:
         if letter != "D" or double(words[-1]) <= 0:
-            said = f"{program} does not add c * c to oblate values, as DLMF's form asks"
-            raise Misunderstood(f"{said}: it may be older than this client\n{MADE_BY}")
+            raise older(program, "does not add c * c to oblate values, as DLMF's form asks")
     if lines[0][0] == "R":
         raise Refused(int(lines[0][1]), what)
     return lines
@@ -358,8 +452,7 @@ def run(options):
     for x, [[letter, *words]] in zip(xs, answers):
         if letter == "R":
             if what == "radial" and words == ["8"] and 0 < x < math.inf:
-                said = f"{program} refuses both radial functions off the disc, where x is above zero"
-                raise Misunderstood(f"{said}: it may be older than this client\n{MADE_BY}")
+                raise older(program, "refuses both radial functions off the disc, where x is above zero")
             refused.append(int(words[0]))
             words = [f"refused {words[0]}"] * (len(heads) - 1)
         else:

@@ -43,9 +43,10 @@
  * is the length of a row, (size_t)(n - m) + 1. The constants below need no cast.
  *
  * The functions keep no state, allocate nothing, touch no errno and may run in any number of threads
- * at once. Measured on x86-64, they use up to 29,400 bytes of stack in rows, 34,700 in DLMF rows,
- * 14,400 in radial functions and 5,200 in the others. Before 3.0.1 rows of both forms used 2,416 bytes
- * more, for a buffer of squares.
+ * at once. Measured on x86-64, they use up to 29,400 bytes of stack in rows, 35,100 in DLMF rows,
+ * 14,400 in radial functions and 5,200 in the others. Before 6.0 DLMF rows used 400 bytes less, with
+ * steps of 16 bits; before 3.0.1 rows of both forms used 2,416 bytes more than after, for a buffer of
+ * squares.
  */
 #ifndef SPHEROIDAL_H
 #define SPHEROIDAL_H
@@ -57,10 +58,10 @@
  * The version. MAJOR moves where a correct program may have to change or gets other answers, MINOR
  * where something is added, PATCH where neither: speed, memory, comments, how it is built.
  */
-#define SPHEROIDAL_VERSION_MAJOR 5
+#define SPHEROIDAL_VERSION_MAJOR 6
 #define SPHEROIDAL_VERSION_MINOR 0
 #define SPHEROIDAL_VERSION_PATCH 0
-#define SPHEROIDAL_VERSION "5.0.0"
+#define SPHEROIDAL_VERSION "6.0.0"
 
 /*
  * What a function answers. 1 to 3 are refusals of the record program and never come from here. Let
@@ -121,16 +122,16 @@ static inline const char *spheroidal_refusal_sentence(uint8_t answer) {
 }
 
 /* The limits. */
-#define SPHEROIDAL_LARGEST_ORDER 199       /* of m */
-#define SPHEROIDAL_LARGEST_OFFSET 199      /* of n - m */
-#define SPHEROIDAL_ROW_LIMIT 291.0         /* H stays below it in rows */
-#define SPHEROIDAL_LIMIT 175.0             /* H stays below it in all else */
-#define SPHEROIDAL_RADIAL_PLACES 200       /* N + m is at most this in radial functions */
-#define SPHEROIDAL_BESSEL_ORDER 251        /* 2N + m is at most this off the disc */
-#define SPHEROIDAL_BESSEL_ARGUMENT 200.0   /* c * x is at most this off the disc */
-#define SPHEROIDAL_ROW_PLACES 200          /* the most that a row needs in a buffer */
-#define SPHEROIDAL_COEFFICIENTS 200        /* what coefficients need in a buffer, always */
-#define SPHEROIDAL_LARGEST_ALLOWANCE 65535 /* the most steps that can be allowed */
+#define SPHEROIDAL_LARGEST_ORDER 199             /* of m */
+#define SPHEROIDAL_LARGEST_OFFSET 199            /* of n - m */
+#define SPHEROIDAL_ROW_LIMIT 291.0               /* H stays below it in rows */
+#define SPHEROIDAL_LIMIT 175.0                   /* H stays below it in all else */
+#define SPHEROIDAL_RADIAL_PLACES 200             /* N + m is at most this in radial functions */
+#define SPHEROIDAL_BESSEL_ORDER 251              /* 2N + m is at most this off the disc */
+#define SPHEROIDAL_BESSEL_ARGUMENT 200.0         /* c * x is at most this off the disc */
+#define SPHEROIDAL_ROW_PLACES 200                /* the most that a row needs in a buffer */
+#define SPHEROIDAL_COEFFICIENTS 200              /* what coefficients need in a buffer, always */
+#define SPHEROIDAL_LARGEST_ALLOWANCE 4294967295u /* the most steps that can be allowed */
 
 /*
  * What the functions are. Let s be c^2 for prolate and -c^2 for oblate modes.
@@ -176,20 +177,25 @@ extern "C" {
  * The allowance is the most steps that each value may use; one that needs more refuses the whole row
  * (10). A larger allowance never changes an accepted row, so SPHEROIDAL_LARGEST_ALLOWANCE is the
  * usual choice, and a smaller one bounds the time. Of some 200,000 rows tried, values next to zero
- * among them, none needed more than 132 steps; that none can is not proved. Where n - m is even, a
- * value past n is bisected too, so that the largest step number need not suffice as an allowance.
+ * among them, none needed more than 132 steps; that none can is not proved, and a value that used up
+ * the largest allowance would take minutes. Where n - m is even, a value past n is bisected too, so
+ * that the largest step number need not suffice as an allowance.
+ *
+ * Before 6.0 allowance and steps were uint16_t. A program is to be compiled anew, with a buffer of
+ * uint32_t for its steps: one of uint16_t would be overrun, and the linker does not tell. The answers
+ * are the same.
  *
  * Writes n - m + 1 places of each of the five buffers. Refusals: 4, 5, 6, 9, 10.
  */
-uint8_t spheroidal_prolate_row(uint16_t m, uint16_t n, double c, uint16_t allowance,
+uint8_t spheroidal_prolate_row(uint16_t m, uint16_t n, double c, uint32_t allowance,
                                double *values, size_t values_length,
-                               uint16_t *steps, size_t steps_length,
+                               uint32_t *steps, size_t steps_length,
                                double *lowers, size_t lowers_length,
                                double *uppers, size_t uppers_length,
                                uint8_t *substituted, size_t substituted_length);
-uint8_t spheroidal_oblate_row(uint16_t m, uint16_t n, double c, uint16_t allowance,
+uint8_t spheroidal_oblate_row(uint16_t m, uint16_t n, double c, uint32_t allowance,
                               double *values, size_t values_length,
-                              uint16_t *steps, size_t steps_length,
+                              uint32_t *steps, size_t steps_length,
                               double *lowers, size_t lowers_length,
                               double *uppers, size_t uppers_length,
                               uint8_t *substituted, size_t substituted_length);
@@ -206,9 +212,9 @@ uint8_t spheroidal_oblate_row(uint16_t m, uint16_t n, double c, uint16_t allowan
  *
  * Writes n - m + 1 places. Refusals: 4, 5, 6, 9, 10, as for the row with the same allowance.
  */
-uint8_t spheroidal_prolate_dlmf_row(uint16_t m, uint16_t n, double c, uint16_t allowance,
+uint8_t spheroidal_prolate_dlmf_row(uint16_t m, uint16_t n, double c, uint32_t allowance,
                                     double *values, size_t values_length);
-uint8_t spheroidal_oblate_dlmf_row(uint16_t m, uint16_t n, double c, uint16_t allowance,
+uint8_t spheroidal_oblate_dlmf_row(uint16_t m, uint16_t n, double c, uint32_t allowance,
                                    double *values, size_t values_length);
 
 /*

@@ -25,7 +25,7 @@ use std::error::Error;
 use std::fmt;
 
 /// The version, that of the header; which of its numbers moves when is said there.
-pub const VERSION: &str = "5.0.0";
+pub const VERSION: &str = "6.0.0";
 
 /// The largest m.
 pub const LARGEST_ORDER: u16 = 199;
@@ -65,7 +65,7 @@ pub struct Mode {
 #[derive(Clone, Copy, Debug, PartialEq)]
 pub struct ModeValue {
     pub value: f64,
-    pub steps: u16,
+    pub steps: u32,
     pub lower: f64,
     pub upper: f64,
     /// Whether, in some count of negative pivots made for this value, 1e-30 was divided by in place of
@@ -161,8 +161,9 @@ impl Error for Refusal {}
 
 /// The characteristic values of the modes from m to n, with at most so many steps for each.
 ///
-/// `u16::MAX` is the usual allowance: a larger one never changes an accepted row.
-pub fn row(kind: Kind, mode: Mode, allowance: u16) -> Result<Vec<ModeValue>, Refusal> {
+/// `u32::MAX` is the usual allowance: a larger one never changes an accepted row. Before 6.0 allowance and
+/// steps were `u16`.
+pub fn row(kind: Kind, mode: Mode, allowance: u32) -> Result<Vec<ModeValue>, Refusal> {
     let count = places(mode);
     let [mut values, mut lowers, mut uppers] = [[0.0; ROW_PLACES]; 3];
     let mut steps = [0; ROW_PLACES];
@@ -192,9 +193,9 @@ pub fn row(kind: Kind, mode: Mode, allowance: u16) -> Result<Vec<ModeValue>, Ref
 pub fn row_into(
     kind: Kind,
     mode: Mode,
-    allowance: u16,
+    allowance: u32,
     values: &mut [f64],
-    steps: &mut [u16],
+    steps: &mut [u32],
     lowers: &mut [f64],
     uppers: &mut [f64],
     substituted: &mut [u8],
@@ -227,7 +228,7 @@ pub fn row_into(
 
 /// The row's values in DLMF's form, its eigenvalues: the value less c · c for prolate modes, the value
 /// plus c · c for oblate ones. Before 4.0 the oblate ones were each less c · c, which is not DLMF's.
-pub fn dlmf_row(kind: Kind, mode: Mode, allowance: u16) -> Result<Vec<f64>, Refusal> {
+pub fn dlmf_row(kind: Kind, mode: Mode, allowance: u32) -> Result<Vec<f64>, Refusal> {
     let mut values = vec![0.0; places(mode)];
     dlmf_row_into(kind, mode, allowance, &mut values)?;
     Ok(values)
@@ -237,7 +238,7 @@ pub fn dlmf_row(kind: Kind, mode: Mode, allowance: u16) -> Result<Vec<f64>, Refu
 pub fn dlmf_row_into(
     kind: Kind,
     mode: Mode,
-    allowance: u16,
+    allowance: u32,
     values: &mut [f64],
 ) -> Result<(), Refusal> {
     let call = match kind {
@@ -377,10 +378,10 @@ mod library {
             m: u16,
             n: u16,
             c: f64,
-            allowance: u16,
+            allowance: u32,
             values: *mut f64,
             values_length: usize,
-            steps: *mut u16,
+            steps: *mut u32,
             steps_length: usize,
             lowers: *mut f64,
             lowers_length: usize,
@@ -393,10 +394,10 @@ mod library {
             m: u16,
             n: u16,
             c: f64,
-            allowance: u16,
+            allowance: u32,
             values: *mut f64,
             values_length: usize,
-            steps: *mut u16,
+            steps: *mut u32,
             steps_length: usize,
             lowers: *mut f64,
             lowers_length: usize,
@@ -409,7 +410,7 @@ mod library {
             m: u16,
             n: u16,
             c: f64,
-            allowance: u16,
+            allowance: u32,
             values: *mut f64,
             length: usize,
         ) -> u8;
@@ -417,7 +418,7 @@ mod library {
             m: u16,
             n: u16,
             c: f64,
-            allowance: u16,
+            allowance: u32,
             values: *mut f64,
             length: usize,
         ) -> u8;

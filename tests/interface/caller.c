@@ -7,7 +7,7 @@
 
 #include "spheroidal.h"
 
-#if SPHEROIDAL_VERSION_MAJOR * 100 + SPHEROIDAL_VERSION_MINOR < 400
+#if SPHEROIDAL_VERSION_MAJOR * 100 + SPHEROIDAL_VERSION_MINOR < 600
 #error "this header is too old"
 #endif
 
@@ -16,7 +16,7 @@ int main(void) {
     uint16_t m;
     double values[SPHEROIDAL_ROW_PLACES], lowers[SPHEROIDAL_ROW_PLACES];
     double uppers[SPHEROIDAL_ROW_PLACES];
-    uint16_t steps[SPHEROIDAL_ROW_PLACES];
+    uint32_t steps[SPHEROIDAL_ROW_PLACES];
     uint8_t substituted[SPHEROIDAL_ROW_PLACES];
 
     printf("version %s\n", SPHEROIDAL_VERSION);

@@ -13,14 +13,15 @@
 
 struct row_call {
     int kind;
-    uint16_t m, n, allowance;
+    uint16_t m, n;
+    uint32_t allowance;
     uint64_t c;
     uint8_t answer;
     size_t first_place; /* in row_places */
 };
 
 struct row_place {
-    uint16_t steps;
+    uint32_t steps;
     uint8_t substituted;
     uint64_t value, lower, upper, dlmf;
 };
@@ -71,9 +72,9 @@ static long passed, failed;
 /* What the blocks hold beforehand: zeros, a number, a NaN. */
 static const int fills[] = {0x00, 0xa5, 0xff};
 
-typedef uint8_t (*row_function)(uint16_t, uint16_t, double, uint16_t, double *, size_t, uint16_t *,
+typedef uint8_t (*row_function)(uint16_t, uint16_t, double, uint32_t, double *, size_t, uint32_t *,
                                 size_t, double *, size_t, double *, size_t, uint8_t *, size_t);
-typedef uint8_t (*dlmf_function)(uint16_t, uint16_t, double, uint16_t, double *, size_t);
+typedef uint8_t (*dlmf_function)(uint16_t, uint16_t, double, uint32_t, double *, size_t);
 typedef uint8_t (*coefficient_function)(uint16_t, uint16_t, double, double, double *, size_t);
 typedef uint8_t (*angular_function)(uint16_t, uint16_t, double, double, double, double *, double *);
 
@@ -125,9 +126,9 @@ static int doubles_right(const double *block, int fill, const uint64_t *expected
     return 1;
 }
 
-static int steps_right(const uint16_t *block, int fill, const uint16_t *expected, size_t count) {
+static int steps_right(const uint32_t *block, int fill, const uint32_t *expected, size_t count) {
     size_t at;
-    uint16_t old;
+    uint32_t old;
     memset(&old, fill, sizeof old);
     for (at = 0; at < BLOCK; at++) {
         int written = at >= GUARD && at < GUARD + count;
@@ -163,10 +164,10 @@ static size_t places_of(uint16_t m, uint16_t n) {
 
 static void row_with(size_t number, const size_t lengths[ROW_BUFFERS], int is_short, int fill) {
     static double values[BLOCK], lowers[BLOCK], uppers[BLOCK];
-    static uint16_t steps[BLOCK];
+    static uint32_t steps[BLOCK];
     static uint8_t substituted[BLOCK];
     uint64_t expected_values[LONGEST], expected_lowers[LONGEST], expected_uppers[LONGEST];
-    uint16_t expected_steps[LONGEST];
+    uint32_t expected_steps[LONGEST];
     uint8_t expected_substituted[LONGEST];
     const struct row_call *call = &row_calls[number];
     uint8_t expected = is_short ? answer_if_short(call->answer) : call->answer;
@@ -325,7 +326,7 @@ static void check_first_kind(size_t number, int fill) {
 /* One row with buffers of one length, for the limits. */
 static uint8_t plain_row(uint16_t m, uint16_t n, double c, size_t length) {
     static double values[LONGEST], lowers[LONGEST], uppers[LONGEST];
-    static uint16_t steps[LONGEST];
+    static uint32_t steps[LONGEST];
     static uint8_t substituted[LONGEST];
     return spheroidal_oblate_row(m, n, c, SPHEROIDAL_LARGEST_ALLOWANCE, values, length, steps, length,
                                  lowers, length, uppers, length, substituted, length);
@@ -402,6 +403,7 @@ static void check_limits(void) {
     check(spheroidal_oblate_radial(0, 0, 1.0, 0.0, -0.5, &a, &b, &c, &d) ==
               SPHEROIDAL_REFUSED_ARGUMENT,
           name, 25, "x below zero, both kinds");
+    check((uint32_t)(SPHEROIDAL_LARGEST_ALLOWANCE + 1) == 0, name, 26, "a larger allowance");
 }
 
 /* The version's string and its numbers, and a sentence for each number, its own for each answer. */

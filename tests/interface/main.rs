@@ -19,7 +19,7 @@ use std::process::ExitCode;
 use generator::Generator;
 use known::Input;
 use oracle::answer::{self, Build};
-use oracle::reading::coefficient_refusal;
+use oracle::reading::{coefficient_refusal, needed_allowance};
 use oracle::record::{self, Record, Request, hex, same};
 use spheroidal::{Kind, Mode, ModeValue, Pair, Radial, Refusal};
 use tally::Tally;
@@ -31,7 +31,7 @@ const STREAM: usize = 1000;
 
 /// What lent places hold beforehand.
 const OLD: f64 = -7.5;
-const OLD_STEPS: u16 = 54_321;
+const OLD_STEPS: u32 = 3_559_904_305;
 const OLD_BYTE: u8 = 165;
 
 struct Tallies {
@@ -68,7 +68,8 @@ fn main() -> ExitCode {
     };
     tallies.check_errors();
     tallies.check_zero_pivots();
-    known.iter().for_each(|record| tallies.compare(record));
+    let records = [with_allowances(), known].concat();
+    records.iter().for_each(|record| tallies.compare(record));
     let mut generator = Generator::new(seed);
     let mut left = count;
     while left > 0 {
@@ -88,6 +89,31 @@ fn known_records() -> Result<Vec<Record>, String> {
             Input::Stream(_) => None,
         });
     Ok(records.collect())
+}
+
+/// Rows of each operation with the allowance that they need, and with some that would be too small in
+/// 16 bits or with a sign.
+fn with_allowances() -> Vec<Record> {
+    let mut records = Vec::new();
+    for (m, n, c) in [(0, 0, 1.0), (0, 3, 2.5), (0, 2, 1e-10), (3, 9, 20.0)] {
+        for operation in [1, 2, 6, 7] {
+            let request = Request::of_operation(operation).expect("a row");
+            let needed = needed_allowance(request.kind(), m, n, c);
+            let above = (1 << 16) + needed - 1;
+            for allowance in [needed - 1, needed, 1 << 16, above, 1 << 31, u32::MAX] {
+                records.push(Record {
+                    operation,
+                    m,
+                    n,
+                    allowance,
+                    c,
+                    cv: 0.0,
+                    x: 0.0,
+                });
+            }
+        }
+    }
+    records
 }
 
 fn kind_of(request: Request) -> Kind {
@@ -154,7 +180,7 @@ const ROW_SLICES: usize = 5;
 #[derive(Clone)]
 struct Lent {
     values: Vec<f64>,
-    steps: Vec<u16>,
+    steps: Vec<u32>,
     lowers: Vec<f64>,
     uppers: Vec<f64>,
     substituted: Vec<u8>,
@@ -401,7 +427,7 @@ impl Tallies {
         ];
         for (m, n, c, expected) in rows {
             let mode = Mode { m, n, c };
-            let row = spheroidal::row(Kind::Prolate, mode, u16::MAX).unwrap_or_default();
+            let row = spheroidal::row(Kind::Prolate, mode, u32::MAX).unwrap_or_default();
             let found: Vec<bool> = row.iter().map(|place| place.substituted).collect();
             self.zero_pivots.count(found == expected, || {
                 format!("{mode:?}: {found:?}, not {expected:?}")

@@ -8,7 +8,7 @@ import struct
 import subprocess
 import sys
 
-ALLOWANCE = 65535
+ALLOWANCE = 2**32 - 1
 # The operation, its function, m, n and c; the second row meets a zero pivot.
 ROWS = [(2, "spheroidal_oblate_row", 0, 4, 2.5), (1, "spheroidal_prolate_row", 0, 2, 1e-5)]
 # The operation, its line's letter, its function and how many doubles it gives.
@@ -16,13 +16,13 @@ RADIAL = [(5, "F", "spheroidal_oblate_radial", 4), (8, "G", "spheroidal_oblate_f
 # m, n, c, cv and x, off the disc and on it; the last two are refused.
 ARGUMENTS = [(0, 4, 2.5, 16.9, 1.5), (0, 4, 2.5, 16.9, 0.25), (3, 3, 1.0, 12.0, -0.0)]
 ARGUMENTS += [(1, 1, 1.0, 2.0, 201.0), (1, 1, 1.0, 2.0, -1.0)]
-BUFFERS = (ctypes.c_double, ctypes.c_uint16, ctypes.c_double, ctypes.c_double, ctypes.c_uint8)
+BUFFERS = (ctypes.c_double, ctypes.c_uint32, ctypes.c_double, ctypes.c_double, ctypes.c_uint8)
 
 
 def call(function, m, n, c, places):
     """The function's number, and what the five buffers hold afterwards."""
     lent = [(kind * places)() for kind in BUFFERS]
-    mode = [ctypes.c_uint16, ctypes.c_uint16, ctypes.c_double, ctypes.c_uint16]
+    mode = [ctypes.c_uint16, ctypes.c_uint16, ctypes.c_double, ctypes.c_uint32]
     function.argtypes = mode + [kind for buffer in lent for kind in (type(buffer), ctypes.c_size_t)]
     function.restype = ctypes.c_uint8
     number = function(m, n, c, ALLOWANCE, *(word for buffer in lent for word in (buffer, places)))
@@ -37,7 +37,7 @@ def lines(m, values, steps, lowers, uppers, substituted):
 
 
 def printed_by(program, operation, m, n, c, cv=0.0, x=0.0):
-    record = b"SW" + struct.pack("<BHHHddd", operation, m, n, ALLOWANCE, c, cv, x)
+    record = b"SV" + struct.pack("<BHHIddd", operation, m, n, ALLOWANCE, c, cv, x)
     return subprocess.run([program], input=record, capture_output=True, check=True).stdout.decode()
 
 

@@ -19,7 +19,7 @@
 static uint64_t stack[WORDS] __attribute__((aligned(4096)));
 
 static double values[PLACES], lowers[PLACES], uppers[PLACES];
-static uint16_t steps[PLACES];
+static uint32_t steps[PLACES];
 static uint8_t substituted[PLACES];
 static double value1, derivative1, value2, derivative2;
 
