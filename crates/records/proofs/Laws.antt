@@ -12,9 +12,7 @@ use borrow.Author.Tests.{lt-ltb, le-ltb}
 use lib.ListN.{length, take, drop, set, length-append, length-drop, length-set}
 use lib.Seq.{length-take-le, take-at, drop-at, drop-drop, take-set-le, drop-set-lt, getD-set-same, drop-cons, set-split, append-snoc}
 use Rattle.records.specs.Record.{numberAt, marked, widthAt}
-use lib.Ieee.{Float}
 use Rattle.records.specs.Text.{Put, digit, decimalIn, decimal, hexadecimal}
-use Rattle.records.specs.Lines.{vLine, zLine, dLine, pairLine, fLine, rLine}
 
 -- ---- little-endian numbers in two halves
 pub numberAt-4 : (input : List ℕ) (at : ℕ) → numberAt input at 4 ≡ numberAt input at 2 + 0x1_0000 * numberAt input (at + 2) 2
@@ -108,8 +106,21 @@ decimalIn-enough (suc k) n h =
 pub decimal-one : (n : ℕ) → n < 10 → decimal n ≡ digit n ∷ []
 decimal-one n h = decimalIn-one 19 n h
 
-pub decimal-more : (n : ℕ) → n < 2 ^ 64 → 10 ≤ n → decimal n ≡ decimal (n / 10) ++ digit (n % 10) ∷ []
-decimal-more n fits h = decimalIn-more 19 n h ∙ ap (λ (front : List ℕ). front ++ digit (n % 10) ∷ []) (sym (decimalIn-enough 18 (n / 10) (omega arith)))
+one-more : (n : ℕ) → n < 2 ^ 64 → 10 ≤ n → decimal n ≡ decimal (n / 10) ++ digit (n % 10) ∷ []
+one-more n fits h = decimalIn-more 19 n h ∙ ap (λ (front : List ℕ). front ++ digit (n % 10) ∷ []) (sym (decimalIn-enough 18 (n / 10) (omega arith)))
+
+pub decimal-two : (n : ℕ) → 10 ≤ n → n < 100 → decimal n ≡ digit (n / 10) ∷ digit (n % 10) ∷ []
+decimal-two n h k = one-more n (omega arith) h ∙ ap (λ (front : List ℕ). front ++ digit (n % 10) ∷ []) (decimal-one (n / 10) (omega arith))
+
+pub decimal-more : (n : ℕ) → n < 2 ^ 64 → 100 ≤ n → decimal n ≡ decimal (n / 100) ++ digit (n % 100 / 10) ∷ digit (n % 100 % 10) ∷ []
+decimal-more n fits h =
+    let front : n / 10 / 10 ≡ n / 100 = omega arith in
+    let tens : n / 10 % 10 ≡ n % 100 / 10 = omega arith in
+    let ones : n % 10 ≡ n % 100 % 10 = omega arith in
+    one-more n fits (omega arith)
+    ∙ ap (λ (l : List ℕ). l ++ digit (n % 10) ∷ []) (one-more (n / 10) (omega arith) (omega arith))
+    ∙ append-assoc (decimal (n / 10 / 10)) (digit (n / 10 % 10) ∷ []) (digit (n % 10) ∷ [])
+    ∙ rw (front, tens, ones)
 
 -- a number below 10 ^ (k + 1) has at most k + 1 digits
 decimalIn-length : (most k n : ℕ) → n < 10 ^ suc k → length (decimalIn most n) ≤ suc k
@@ -124,27 +135,3 @@ decimalIn-length (suc most) (suc k) n h =
 
 pub decimal-length : (k n : ℕ) → n < 10 ^ suc k → length (decimal n) ≤ suc k
 decimal-length k n h = decimalIn-length 20 k n h
-
--- ---- lines. None is longer than this
-pub vLine-length : (index mode steps : ℕ) (value lower upper : Float) → index < 2 ^ 64 → mode < 2 ^ 16 → steps < 2 ^ 16 → length (vLine index mode steps value lower upper) ≤ 86
-vLine-length index mode steps value lower upper i m s =
-    simp (length-append, hexadecimal-length) (omega (arith, decimal-length 19 index (omega arith), decimal-length 4 mode (omega arith), decimal-length 4 steps (omega arith)))
-
-pub zLine-length : (index mode substituted : ℕ) → index < 2 ^ 64 → mode < 2 ^ 16 → substituted < 2 ^ 8 → length (zLine index mode substituted) ≤ 33
-zLine-length index mode substituted i m s =
-    simp length-append (omega (arith, decimal-length 19 index (omega arith), decimal-length 4 mode (omega arith), decimal-length 2 substituted (omega arith)))
-
-pub dLine-length : (index mode : ℕ) (value : Float) → index < 2 ^ 64 → mode < 2 ^ 16 → length (dLine index mode value) ≤ 46
-dLine-length index mode value i m = simp (length-append, hexadecimal-length) (omega (arith, decimal-length 19 index (omega arith), decimal-length 4 mode (omega arith)))
-
-pub rLine-length : (index refusal : ℕ) → index < 2 ^ 64 → refusal < 2 ^ 8 → length (rLine index refusal) ≤ 27
-rLine-length index refusal i r = simp length-append (omega (arith, decimal-length 19 index (omega arith), decimal-length 2 refusal (omega arith)))
-
-pub pairLine-length : (letter index m n : ℕ) (value derivative : Float) → index < 2 ^ 64 → m < 2 ^ 16 → n < 2 ^ 16 → length (pairLine letter index m n value derivative) ≤ 69
-pairLine-length letter index m n value derivative i hm hn =
-    simp (length-append, hexadecimal-length) (omega (arith, decimal-length 19 index (omega arith), decimal-length 4 m (omega arith), decimal-length 4 n (omega arith)))
-
-pub fLine-length : (index m n : ℕ) (value1 derivative1 value2 derivative2 : Float) → index < 2 ^ 64 → m < 2 ^ 16 → n < 2 ^ 16
-    → length (fLine index m n value1 derivative1 value2 derivative2) ≤ 103
-fLine-length index m n value1 derivative1 value2 derivative2 i hm hn =
-    simp (length-append, hexadecimal-length) (omega (arith, decimal-length 19 index (omega arith), decimal-length 4 m (omega arith), decimal-length 4 n (omega arith)))

@@ -2,7 +2,7 @@
 // it; the caller sees to it that the text fits. No other byte of the slice changes.
 ghost use mathlib.Core.Path.{_≡_};
 ghost use mathlib.Core.List.{[], _∷_};
-ghost use Prim.Native.Nat.{_+_, _<_, _≤_};
+ghost use Prim.Native.Nat.{_+_, _/_, _%_, _<_, _≤_};
 ghost use lib.ListN.{length};
 ghost use Rattle.records.specs.Text.{Put, digit, decimal, hexadecimal};
 
@@ -27,17 +27,28 @@ pub(crate) fn byte(out: &mut [u8], at: usize, b: u8) -> usize
     at + 1
 }
 
-// A number in decimal. It calls itself for the digits before the last, at most 19 calls deep.
+// The two decimal digits of a number below 100.
+fn two_digits(out: &mut [u8], at: usize, n: u64) -> usize
+    requires { ⌜ (n < 100) × (at + 2 ≤ length (now out)) ⌝ }
+    ensures { λ r. ⌜ Put (now (out .entry)) (now (out .exit)) at r (digit (n / 10) ∷ digit (n % 10) ∷ []) ⌝ }
+{
+    let last = byte(out, at, digit(n / 10));
+    byte(out, last, digit(n % 10))
+}
+
+// A number in decimal. It calls itself for the digits before the last two, at most 9 calls deep.
 pub(crate) fn decimal(out: &mut [u8], at: usize, n: u64) -> usize
     requires { ⌜ at + length (decimal n) ≤ length (now out) ⌝ }
     ensures { λ r. ⌜ Put (now (out .entry)) (now (out .exit)) at r (decimal n) ⌝ }
 {
     if n < 10 {
-        byte(out, at, digit(n))
-    } else {
-        let last = decimal(out, at, n / 10);
-        byte(out, last, digit(n % 10))
+        return byte(out, at, digit(n));
     }
+    if n < 100 {
+        return two_digits(out, at, n);
+    }
+    let front = decimal(out, at, n / 100);
+    two_digits(out, front, n % 100)
 }
 
 // A number as 16 hexadecimal digits, the last one put first.
