@@ -22,7 +22,7 @@ use Rattle.modes.specs.Angular.{angularOf}
 use Rattle.modes.specs.Radial.{radialOf}
 use Rattle.modes.specs.FirstKind.{firstOf}
 use Rattle.stream.specs.Response.{rowLines, dLines, rowText, dlmfText, answerText, modeOf, textOf, responseTo}
-use Rattle.stream.specs.Ignored.{AgreeFor, Alike, Line, numbered, IgnoredFields}
+use Rattle.stream.specs.Ignored.{AgreeFor, Line, numbered, IgnoredFields}
 
 -- ---- the lines of a record without its number
 

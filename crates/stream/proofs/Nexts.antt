@@ -1,7 +1,7 @@
 -- What the input has from a byte on, and how the definitions of a stream unfold by it. Assumes nothing.
 use Prim.Native.Nat.{ℕ, zero, suc, _+_, _-_, _≤_, _<_}
 use mathlib.Core.Path.{_≡_, refl, sym, subst, _∙_}
-use mathlib.Core.Logic.{_⊎_, ⊎-elim}
+use mathlib.Core.Logic.{_⊎_, inl, inr, ⊎-elim}
 use mathlib.Core.Bool.{Bool, true, false}
 use mathlib.Core.List.{List, [], _∷_, _++_}
 use native.Mathlib.Omega.{arith}
@@ -104,6 +104,10 @@ at-whole input at width known e h =
     let unlike : eqb width 0 ≡ false = ⊎-elim (λ w. rw w) (λ w. rw w) known in
     rw (lt-leb (length input) at (omega arith), le-ltb (length input - at) 2 (omega arith), e, unlike, le-ltb (length input - at) (31 + width) (omega arith))
 
+-- less than a record is left
+abbrev pub Through : List ℕ → ℕ → Type 0
+Through input at = (nextAt input at ≡ End) ⊎ (nextAt input at ≡ Cut)
+
 -- ---- one call
 module _ (left : ℕ) (input : List ℕ) (room at index : ℕ) (text : List ℕ) where
   abbrev stopped : Answered
@@ -119,21 +123,14 @@ module _ (left : ℕ) (input : List ℕ) (room at index : ℕ) (text : List ℕ)
       go (suc l) = rw (h, answeredIn)
 
   module _ (h : leb (length text + longest) room ≡ true) where
-    pub answered-end : nextAt input at ≡ End → answeredIn left input room at index text ≡ stopped
+    pub answered-through : Through input at → answeredIn left input room at index text ≡ stopped
     unfolding answeredIn
-    answered-end e = go left
+    answered-through e = go left e
       where
-        go : (l : ℕ) → answeredIn l input room at index text ≡ stopped
-        go zero = refl
-        go (suc l) = rw (h, e, answeredIn)
-
-    pub answered-cut : nextAt input at ≡ Cut → answeredIn left input room at index text ≡ stopped
-    unfolding answeredIn
-    answered-cut e = go left
-      where
-        go : (l : ℕ) → answeredIn l input room at index text ≡ stopped
-        go zero = refl
-        go (suc l) = rw (h, e, answeredIn)
+        go : (l : ℕ) → Through input at → answeredIn l input room at index text ≡ stopped
+        go zero e = refl
+        go (suc l) (inl e) = rw (h, e, answeredIn)
+        go (suc l) (inr e) = rw (h, e, answeredIn)
 
     pub answered-unmarked : length input - at ≤ left → nextAt input at ≡ Unmarked → answeredIn left input room at index text ≡ record { text = text ++ rLine index 2; at = at; index = index; refused = true }
     unfolding answeredIn Told

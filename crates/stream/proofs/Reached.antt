@@ -7,7 +7,7 @@ use native.Mathlib.Omega.{arith}
 use borrow.Author.Tests.{le-leb, lt-leb}
 use lib.Dec.{leb}
 use lib.ListN.{length}
-use Rattle.records.specs.declared.record.Next.the-variants.{Whole, Unmarked, Cut, End}
+use Rattle.records.specs.declared.record.Next.the-variants.{Whole, Unmarked}
 use Rattle.records.specs.declared.record.Record.{Record}
 use Rattle.records.specs.Record.{nextAt}
 use Rattle.records.specs.Lines.{rLine}
@@ -17,7 +17,7 @@ use Rattle.stream.specs.declared.stream.Progress.{Progress}
 use Rattle.stream.specs.Response.{responseTo}
 use Rattle.stream.specs.Inside.Calls.{Answered, answeredIn, answered, progress, longest}
 use Rattle.stream.proofs.Laws.{put-nothing, put-same}
-use Rattle.stream.proofs.Nexts.{whole-told, answered-full, answered-end, answered-cut, answered-unmarked, answered-whole}
+use Rattle.stream.proofs.Nexts.{whole-told, Through, answered-full, answered-through, answered-unmarked, answered-whole}
 
 -- `text` is put, and what is left to do gives what the whole call gives.
 pub record Reached (input : List ℕ) (from first : ℕ) (out₀ out : List ℕ) (at index used : ℕ) : Type 0 where
@@ -53,11 +53,8 @@ module _ {input : List ℕ} {from first : ℕ} {out₀ out : List ℕ} {at index
     roomy : leb (length (s .text) + longest) (length out₀) ≡ true
     roomy = le-leb (length (s .text) + longest) (length out₀) (omega (arith, s .put .ends, s .put .fits, put-length (s .put)))
 
-    pub ended : nextAt input at ≡ End → Done input from first out₀ out (record { at = at; index = index; used = used; refused = false })
-    ended e = done (s .put) (answered-end _ _ _ _ _ _ roomy e)
-
-    pub cut : nextAt input at ≡ Cut → Done input from first out₀ out (record { at = at; index = index; used = used; refused = false })
-    cut e = done (s .put) (answered-cut _ _ _ _ _ _ roomy e)
+    pub through : Through input at → Done input from first out₀ out (record { at = at; index = index; used = used; refused = false })
+    through e = done (s .put) (answered-through _ _ _ _ _ _ roomy e)
 
     pub unmarked : {after : List ℕ} {end : ℕ} → nextAt input at ≡ Unmarked → Put out after used end (rLine index 2) → Done input from first out₀ after (record { at = at; index = index; used = end; refused = true })
     unmarked e p = done (put-then (s .put) p) (answered-unmarked _ _ _ _ _ _ roomy (s .enough) e)

@@ -14,9 +14,8 @@ use Rattle.stream.specs.Stream.{linesFrom}
 use Rattle.stream.specs.Inside.Calls.{Answered, answered, progress, linesAfter, longest}
 use Rattle.stream.specs.StreamLaws.{Moved}
 use Rattle.stream.specs.Readings.{callsIn, answersTo, Held, nothing, answersWith, holds, printed, joined, ReadInParts}
-use Rattle.stream.proofs.Nexts.{at-end, next-back}
+use Rattle.stream.proofs.Nexts.{Through, at-end, next-back}
 use Rattle.stream.proofs.StreamLaws as laws
-use Rattle.stream.proofs.StreamLaws.{Through}
 
 -- ---- how the calls go on
 abbrev pub further : List ℕ → ℕ → Answered → Answered

@@ -1,7 +1,7 @@
 -- The statements of `specs/StreamLaws.antt`. Assumes nothing.
 use Prim.Native.Nat.{ℕ, zero, suc, _+_, _-_, _*_, _≤_, _<_}
 use mathlib.Core.Path.{_≡_, refl, sym, ap, _∙_}
-use mathlib.Core.Logic.{_⊎_, inl, inr}
+use mathlib.Core.Logic.{inl, inr}
 use mathlib.Core.Bool.{Bool, true, false, true≢false}
 use mathlib.Core.List.{List, [], _++_, append-assoc, append-nil}
 use native.Mathlib.Omega.{arith}
@@ -18,7 +18,7 @@ use Rattle.stream.specs.Response.{responseTo}
 use Rattle.stream.specs.Stream.{linesIn, linesFrom}
 use Rattle.stream.specs.Inside.Calls.{Answered, answeredIn, answered, linesAfter, endLines, longest}
 use Rattle.stream.specs.StreamLaws.{Unbounded, PartsJoined, NextPart, Moves}
-use Rattle.stream.proofs.Nexts.{Told, told, whole-told, at-end, answered-end, answered-cut, answered-unmarked, answered-whole, unmarked-front, whole-front, next-back}
+use Rattle.stream.proofs.Nexts.{Told, told, whole-told, at-end, Through, answered-through, answered-unmarked, answered-whole, unmarked-front, whole-front, next-back}
 
 -- ---- the lines of a stream, by what it has next
 lines-same : (n m : ℕ) (input : List ℕ) (at index : ℕ) → length input - at ≤ n → length input - at ≤ m → linesIn n input at index ≡ linesIn m input at index
@@ -102,10 +102,6 @@ moved-in (suc left) input room at index text = go (leb (length text + longest) r
     go false h later = rw (h, answeredIn) (stays input at index text false)
     go true h later = more h (nextAt input at) refl later
 
--- less than a record is left
-abbrev pub Through : List ℕ → ℕ → Type 0
-Through input at = (nextAt input at ≡ End) ⊎ (nextAt input at ≡ Cut)
-
 through-in : (left : ℕ) (input : List ℕ) (room at index : ℕ) (text : List ℕ) → length input - at ≤ left
     → let a = answeredIn left input room at index text in leb (length (a .text) + longest) room ≡ true → a .refused ≡ false → Through input (a .at)
 unfolding answeredIn
@@ -135,8 +131,8 @@ further input room at index roomy full accepted = go (nextAt input at) refl
     h = le-leb _ _ roomy
 
     go : (x : Next) → nextAt input at ≡ x → at < answered input room at index .at
-    go End e = let w = ap (λ (a : Answered). length (a .text)) (answered-end (length input - at) input room at index [] h e) in absurd (omega arith)
-    go Cut e = let w = ap (λ (a : Answered). length (a .text)) (answered-cut (length input - at) input room at index [] h e) in absurd (omega arith)
+    go End e = let w = ap (λ (a : Answered). length (a .text)) (answered-through (length input - at) input room at index [] h (inl e)) in absurd (omega arith)
+    go Cut e = let w = ap (λ (a : Answered). length (a .text)) (answered-through (length input - at) input room at index [] h (inr e)) in absurd (omega arith)
     go Unmarked e = let w = answered-unmarked (length input - at) input room at index [] h (omega arith) e in absurd (true≢false (sym (ap (λ (a : Answered). a .refused) w) ∙ accepted))
     go (Whole r size) e =
         let f = whole-told input at e in

@@ -18,11 +18,11 @@ use Rattle.stream.proofs.stream.answer_some.Statement.{statement}
 use Rattle.stream.proofs.stream.answer_some.Tie as tie
 
 -- the last arm's two cases, by their tags
-stopped : (x : Next) → OneOf (2 ∷ 3 ∷ []) (tagOf the-type x) → (x ≡ Cut) ⊎ (x ≡ End)
+stopped : (x : Next) → OneOf (2 ∷ 3 ∷ []) (tagOf the-type x) → (x ≡ End) ⊎ (x ≡ Cut)
 stopped (Whole r size) k = absurd (⊎-elim (λ e. omega arith) (λ e. omega arith) k)
 stopped Unmarked k = absurd (⊎-elim (λ e. omega arith) (λ e. omega arith) k)
-stopped Cut k = inl refl
-stopped End k = inr refl
+stopped Cut k = inr refl
+stopped End k = inl refl
 
 abbrev Inv-loop : tie.InvT-loop
 Inv-loop input from first out₀ at₀ index₀ used₀ out at index used =
@@ -97,7 +97,7 @@ returns-2 c =
     let l = c .before .before .before .loop in
     let roomy = c .before .before .loop-test .taken in
     let next = sym (c .before .next-record .ensures) in
-    let d = ⊎-elim (λ e. reached.cut (l .inv .3) roomy (next ∙ e)) (λ e. reached.ended (l .inv .3) roomy (next ∙ e)) (stopped _ (c .match .keys3)) in
+    let d = reached.through (l .inv .3) roomy (⊎-elim (λ e. inl (next ∙ e)) (λ e. inr (next ∙ e)) (stopped _ (c .match .keys3))) in
     (d .put, d .is)
 
 same-length-3 : tie.Need-same-length-3 Inv-loop μ-loop
