@@ -71,7 +71,8 @@ pub fn answer_some(input: &[u8], from: usize, first: u64, out: &mut [u8]) -> Pro
 }
 
 // What is said of the bytes from `at` on that no call has answered, where the input has ended: a
-// record that is cut short is refused.
+// record that is cut short is refused. The contract rules out a stream that ends without a word inside
+// a record, and a record that is cut short refused as one with a wrong mark.
 pub fn answer_end(input: &[u8], at: usize, index: u64, out: &mut [u8]) -> usize
     requires { ⌜ 27 ≤ length (now out) ⌝ }
     ensures { λ r. ⌜ Put (now (out .entry)) (now (out .exit)) 0 r (endLines (now (input .entry)) at index) ⌝ }

@@ -35,7 +35,7 @@ same-length-2 c = search needs
 returns : tie.Need-returns Inv-loop μ-loop
 returns c =
     let l = c .before .before .before .before .before .before .before .before .before .before .before .loop in
-    (inl (c .if2 .taken), λ g. readings.keeps-in (l .inv .1) (c .before .before .before .before .before .before .take-reading .ensures .1 .1 g))
+    (inl (omega arith), λ g. readings.keeps-in (l .inv .1) (c .before .before .before .before .before .before .take-reading .ensures .1 .1 g))
 
 same-length-3 : tie.Need-same-length-3 Inv-loop μ-loop
 same-length-3 c = search needs
@@ -76,7 +76,7 @@ same-length-8 : tie.Need-same-length-8 Inv-loop μ-loop
 same-length-8 c = search needs
 
 returns-4 : tie.Need-returns-4 Inv-loop μ-loop
-returns-4 c = (inr (inr (inr (c .if1 .left))), λ g. c .before .before .loop .inv .3)
+returns-4 c = (inr (inr (inr (omega arith))), λ g. c .before .before .loop .inv .3)
 
 pub answer-all-spec : {M : Type 1} → statement M
 answer-all-spec =

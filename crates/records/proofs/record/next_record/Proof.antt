@@ -1,8 +1,9 @@
 -- `records::record::next_record` meets its contract: each answer by the tests that led to it. Assumes nothing.
-use Prim.Native.Nat.{_+_}
+use Prim.Native.Nat.{_+_, _-_, _<_}
 use mathlib.Core.Path.{ap}
 use mathlib.Core.Logic.{⊎-elim}
 use native.Mathlib.Omega.{arith}
+use lib.ListN.{length}
 use borrow.Author.Tests.{lt-ltb, le-ltb, le-leb, lt-leb, eq-eqb, ne-eqb}
 use borrow.Author.Needs.{needs}
 use Rattle.records.specs.Record.{nextAt}
@@ -21,7 +22,9 @@ sub-left c = search needs
 
 returns-2 : tie.Need-returns-2
 unfolding nextAt
-returns-2 c = rw (lt-leb _ _ (c .before .if1 .left), lt-ltb _ 2 (c .if2 .taken))
+returns-2 c =
+    let s = c .before .before .before in
+    rw (lt-leb _ _ (c .before .if1 .left), lt-ltb (length (s .args .input .now) - s .args .at) 2 (omega arith))
 
 width-at-requires : tie.Need-width-at-requires
 width-at-requires c κs = search needs
@@ -37,7 +40,12 @@ add-size c =
 
 returns-4 : tie.Need-returns-4
 unfolding nextAt
-returns-4 c = rw (lt-leb _ _ (c .before .before .before .before .if1 .left), le-ltb _ 2 (c .before .before .before .if2 .left), ← c .before .before .width-at .ensures, ne-eqb _ 0 (c .before .if3 .left), lt-ltb _ _ (c .if4 .taken))
+returns-4 c =
+    let s = c .before .before .before .before .before .before in
+    let w = c .before .before .width-at in
+    let left = length (s .args .input .now) - s .args .at in
+    let short : left < 31 + w .result = ⊎-elim (λ two. omega arith) (λ four. omega arith) (width-known (s .args .input .now) (s .args .at) (w .ensures) (c .before .if3 .left)) in
+    rw (lt-leb _ _ (c .before .before .before .before .if1 .left), le-ltb _ 2 (c .before .before .before .if2 .left), ← w .ensures, ne-eqb _ 0 (c .before .if3 .left), lt-ltb left (31 + w .result) short)
 
 decode-requires : tie.Need-decode-requires
 decode-requires c κs = let s = c .before .before .before .before .before .before in
@@ -46,7 +54,10 @@ decode-requires c κs = let s = c .before .before .before .before .before .befor
 returns-5 : tie.Need-returns-5
 unfolding nextAt
 returns-5 c =
-    rw (lt-leb _ _ (c .before .before .before .before .before .if1 .left), le-ltb _ 2 (c .before .before .before .before .if2 .left), ← c .before .before .before .width-at .ensures, ne-eqb _ 0 (c .before .before .if3 .left), le-ltb _ _ (c .before .if4 .left)) (ap (λ (r : Record). Whole r (31 + c .before .before .before .width-at .result)) (c .decode .ensures))
+    let s = c .before .before .before .before .before .before .before in
+    let w = c .before .before .before .width-at in
+    let reached = le-ltb (length (s .args .input .now) - s .args .at) (31 + w .result) (omega arith) in
+    rw (lt-leb _ _ (c .before .before .before .before .before .if1 .left), le-ltb _ 2 (c .before .before .before .before .if2 .left), ← w .ensures, ne-eqb _ 0 (c .before .before .if3 .left), reached) (ap (λ (r : Record). Whole r (31 + w .result)) (c .decode .ensures))
 
 pub next-record-spec : {M : Type 1} → statement M
 next-record-spec =
