@@ -161,7 +161,7 @@ impl Error for Refusal {}
 
 /// The characteristic values of the modes from m to n, with at most so many steps for each.
 ///
-/// `u32::MAX` is the usual allowance: a larger one never changes an accepted row. Before 6.0 allowance and
+/// `u32::MAX` is the usual allowance, as more of it never changes an accepted row. Before 6.0 allowance and
 /// steps were `u16`.
 pub fn row(kind: Kind, mode: Mode, allowance: u32) -> Result<Vec<ModeValue>, Refusal> {
     let count = places(mode);
