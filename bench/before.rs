@@ -90,8 +90,10 @@ const fn dlmf(m: u16, n: u16, c: f64) -> Mode {
 }
 
 /// The rows of `modes.rs`, the other kind of the small ones, and small c, where pivots are replaced;
-/// then DLMF's form, prolate only: Card 4 gave oblate ones other numbers, and the time is the same.
-const ROWS: [Mode; 13] = [
+/// the last order with factors from Card 7's table and the first without, and the row with the most
+/// entries for its places; then DLMF's form, prolate only: Card 4 gave oblate ones other numbers, and
+/// the time is the same.
+const ROWS: [Mode; 16] = [
     mode(Prolate, 0, 0, 1.0),
     mode(Oblate, 0, 0, 1.0),
     mode(Prolate, 0, 5, 5.0),
@@ -102,6 +104,9 @@ const ROWS: [Mode; 13] = [
     mode(Oblate, 199, 398, 90.0),
     mode(Prolate, 0, 4, 1e-8),
     mode(Oblate, 4, 4, 1e-4),
+    mode(Prolate, 3, 3, 1.0),
+    mode(Prolate, 4, 4, 1.0),
+    mode(Prolate, 0, 0, 280.0),
     dlmf(0, 0, 1.0),
     dlmf(0, 5, 5.0),
     dlmf(0, 199, 190.0),

@@ -3,18 +3,18 @@ use mathlib.Core.Path.{_≡_, refl, sym, ap, subst, _∙_}
 use mathlib.Core.Logic.{_⊎_, inl, inr}
 use mathlib.Core.Bool.{Bool, true, false, not, cond}
 use Prim.Native.Nat.{ℕ, zero, suc, _+_, _-_, _*_, _/_, _%_, _^_, _≤_, _<_, min, compare}
-use native.Mathlib.Nat.{zero-div, zero-mul, mul-one, mul-pos, add-comm, mul-comm, mul-mul-mul-comm, mul-right-comm, div-lt-iff-lt-mul, lt-of-mul-lt-mul-right}
+use native.Mathlib.Nat.{zero-div, zero-mul, mul-one, mul-pos, add-comm, add-mul, mul-assoc, mul-comm, mul-mul-mul-comm, mul-right-comm, div-lt-iff-lt-mul, lt-of-mul-lt-mul-right}
 use native.Mathlib.Omega.{arith}
 use borrow.Author.Tests.{ltb-true, ltb-false}
 use lib.IntN.{pos, negℤ}
-use lib.Dec.{T, ltb}
-use lib.Ieee.{Float, nan, inf, fin, binary64, prec, emax, low, up, down, size, nearest, odd, units, round, sum, add, sub, mul, lt, neg, ofInt, toSigned, toUnsigned, ofBits, toBits, fits, isNan}
+use lib.Dec.{T, ltb, eqb·suc-zero}
+use lib.Ieee.{Float, nan, inf, fin, binary64, prec, emax, low, up, down, size, nearest, odd, units, round, sum, add, sub, mul, div, lt, neg, ofInt, toSigned, toUnsigned, ofBits, toBits, fits, isNan}
 use lib.Ieee.Back.{round-whole}
 use lib.Ieee.Scale.{round-same}
 use lib.Ieee.Exact.{HasValue}
 use lib.Ieee.Fits.{down-pos}
 use lib.Ieee.Positive.{positive}
-use Rattle.arith.specs.Double.{_⊖_, _⊗_, dbl, #0}
+use Rattle.arith.specs.Double.{_⊕_, _⊖_, _⊗_, _⊘_, dbl, #0}
 use Rattle.arith.specs.Truncation.{truncate, wholePart}
 use Rattle.arith.specs.Choice.{abs, lesser, greater}
 use Rattle.arith.proofs.Flags.{not-taken, not-left}
@@ -98,6 +98,75 @@ dbl-product a b h k = product (round binary64 false a 1) (round binary64 false b
     product (fin false m e) (fin false n d) p q =
         round-same binary64 false (m * up e * (n * up d)) (down e * down d) (a * b) 1 (mul-pos (down-pos e) (down-pos d)) (omega arith)
         (mul-one (m * up e * (n * up d)) ∙ ap (λ (z : ℕ). z * (n * up d)) (sym (mul-one (m * up e)) ∙ p .1) ∙ ap (λ (z : ℕ). a * down e * z) (sym (mul-one (n * up d)) ∙ q .1) ∙ mul-mul-mul-comm a (down e) b (down d))
+
+-- and so is their sum
+pub dbl-sum : (a b : ℕ) → a ≤ 2 ^ 53 → b ≤ 2 ^ 53 → dbl a ⊕ dbl b ≡ dbl (a + b)
+unfolding ofInt add sum
+dbl-sum a b h k = total (round binary64 false a 1) (round binary64 false b 1) (round-whole binary64 false a h) (round-whole binary64 false b k)
+  where
+    value : (x y e d : ℕ) → x * 1 ≡ a * e → y * 1 ≡ b * d → (x * d + y * e) * 1 ≡ (a + b) * (e * d)
+    value x y e d p q =
+        mul-one (x * d + y * e)
+        ∙ ap (λ (z : ℕ). z * d + y * e) (sym (mul-one x) ∙ p)
+        ∙ ap (λ (z : ℕ). a * e * d + z * e) (sym (mul-one y) ∙ q)
+        ∙ ap (λ (z : ℕ). z + b * d * e) (mul-assoc a e d)
+        ∙ ap (λ (z : ℕ). a * (e * d) + z) (mul-right-comm b d e ∙ mul-assoc b e d)
+        ∙ sym (add-mul a b (e * d))
+
+    total : (x y : Float) → HasValue x false a 1 → HasValue y false b 1 → x ⊕ y ≡ round binary64 false (a + b) 1
+    total nan y p q = absurd p
+    total (inf s) y p q = absurd p
+    total (fin true m e) y p q = not-left (p .0)
+    total (fin false m e) nan p q = absurd q
+    total (fin false m e) (inf t) p q = absurd q
+    total (fin false m e) (fin true n d) p q = not-left (q .0)
+    total (fin false m e) (fin false n d) p q =
+        round-same binary64 false (m * up e * down d + n * up d * down e) (down e * down d) (a + b) 1 (mul-pos (down-pos e) (down-pos d)) (omega arith)
+        (value (m * up e) (n * up d) (down e) (down d) (p .1) (q .1))
+
+-- their quotient is the double nearest to a / b
+pub dbl-quotient : (a b : ℕ) → a ≤ 2 ^ 53 → b ≤ 2 ^ 53 → 0 < b → dbl a ⊘ dbl b ≡ round binary64 false a b
+unfolding ofInt div
+dbl-quotient a b h k above = over (round binary64 false a 1) (round binary64 false b 1) (round-whole binary64 false a h) (round-whole binary64 false b k)
+  where
+    over : (x y : Float) → HasValue x false a 1 → HasValue y false b 1 → x ⊘ y ≡ round binary64 false a b
+    over nan y p q = absurd p
+    over (inf s) y p q = absurd p
+    over (fin true m e) y p q = not-left (p .0)
+    over (fin false m e) nan p q = absurd q
+    over (fin false m e) (inf t) p q = absurd q
+    over (fin false m e) (fin true n d) p q = not-left (q .0)
+    over (fin false m e) (fin false zero d) p q = absurd (none (b * down d) (mul-pos above (down-pos d)) (q .1))
+      where
+        none : (z : ℕ) → 0 < z → 0 * up d * 1 ≡ z → ⊥
+        none z l e = omega arith
+    over (fin false m e) (fin false (suc n) d) p q =
+        rw (eqb·suc-zero n) (round-same binary64 false (m * up e * down d) (suc n * up d * down e) a b (some (suc n * up d) (q .1)) above
+        (ap (λ (z : ℕ). z * down d * b) (sym (mul-one (m * up e)) ∙ p .1) ∙ apart (suc n * up d) (down d) (down e) (q .1)))
+      where
+        some : (y : ℕ) → y * 1 ≡ b * down d → 0 < y * down e
+        some y e' = mul-pos (subst (λ (z : ℕ). 0 < z) (sym (sym (mul-one y) ∙ e')) (mul-pos above (down-pos d))) (down-pos e)
+
+        apart : (y d e : ℕ) → y * 1 ≡ b * d → a * e * d * b ≡ a * (y * e)
+        apart y d e v = ap (λ (z : ℕ). z * b) (mul-assoc a e d) ∙ mul-assoc a (e * d) b ∙ ap (λ (z : ℕ). a * z) (mul-comm (e * d) b ∙ ap (λ (z : ℕ). b * z) (mul-comm e d) ∙ sym (mul-assoc b d e) ∙ ap (λ (z : ℕ). z * e) (sym (sym (mul-one y) ∙ v)))
+
+-- ---- what is rounded is no NaN
+pub round-number : (s : Bool) (a b : ℕ) → isNan (round binary64 s a b) ≡ false
+unfolding isNan round units
+round-number s a b =
+    let n = a * 2 ^ low binary64 in
+    let k = size (n / b) - prec binary64 in
+    let u = b * 2 ^ k in
+    let q = nearest (n / u) (compare (n % u * 2) u) in
+    go (ltb (q * 2 ^ k) (2 ^ (low binary64 + suc (emax binary64)))) q k
+  where
+    odd-number : (q k : ℕ) → isNan (odd 54 s q k (low binary64)) ≡ false
+    odd-number zero k = refl
+    odd-number (suc q) k = refl
+
+    go : (t : Bool) (q k : ℕ) → isNan (cond t (odd 54 s q k (low binary64)) (inf s)) ≡ false
+    go true q k = odd-number q k
+    go false q k = refl
 
 -- ---- choice
 pub abs-neg : (x : Float) → abs (neg x) ≡ abs x

@@ -6,13 +6,13 @@ use mathlib.Core.List.{List}
 use lib.Dec.{ltb}
 use lib.Ieee.{Float}
 use lib.ListN.{set, replicate}
-use Rattle.arith.specs.Double.{_⊕_, _⊖_, _⊗_, _⊘_, dbl, #0, #1, #2, #3, #5}
+use Rattle.arith.specs.Double.{_⊕_, _⊖_, _⊗_, _⊘_, dbl, #0, #1, #2, #3}
 use Rattle.arith.specs.Root.{sqrt}
+use Rattle.factors.specs.Factors.{factorA}
 
 -- (2m+k+2)(2m+k+1) / ((2(m+k)+3)(2(m+k)+5)) × cs
 abbrev pub entryA : ℕ → ℕ → Float → Float
-entryA m k cs =
-    (dbl (2 * m + k) ⊕ #2) ⊗ (dbl (2 * m + k) ⊕ #1) ⊘ ((dbl (2 * (m + k)) ⊕ #3) ⊗ (dbl (2 * (m + k)) ⊕ #5)) ⊗ cs
+entryA m k cs = factorA m k ⊗ cs
 
 -- (m+k)(m+k+1) + (2(m+k)(m+k+1) − 2m² − 1) / ((2(m+k)−1)(2(m+k)+3)) × cs
 abbrev pub entryD : ℕ → ℕ → Float → Float

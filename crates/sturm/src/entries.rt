@@ -1,15 +1,14 @@
 // Matrix entries of the modes of order m whose degree is m + k, k of one parity.
 ghost use mathlib.Core.Path.{_≡_};
-ghost use Prim.Native.Nat.{_+_, _<_, _≤_};
+ghost use Prim.Native.Nat.{_+_, _*_, _<_, _≤_};
+ghost use Rattle.factors.specs.Factors.{factorTable};
 ghost use Rattle.sturm.specs.Entries.{entryA, entryD, entryG, entryE, blankEntries, diagonal, offDiagonal};
 
 pub fn entry_a(m: u32, k: u32, cs: f64) -> f64
     requires { ⌜ m + k < 4096 ⌝ }
     ensures { λ r. ⌜ r ≡ entryA m k cs ⌝ }
 {
-    let d2k = (2 * m + k) as f64;
-    let dk2 = (2 * (m + k)) as f64;
-    (d2k + 2.0) * (d2k + 1.0) / ((dk2 + 3.0) * (dk2 + 5.0)) * cs
+    factors::factor_a(m, k) * cs
 }
 
 pub fn entry_d(m: u32, k: u32, cs: f64) -> f64
@@ -32,15 +31,16 @@ pub fn entry_g(m: u32, k: u32, cs: f64) -> f64
     dk * (dk - 1.0) / ((dk2 - 3.0) * (dk2 - 1.0)) * cs
 }
 
-// Zero in the first entry, whose k is 0 or 1.
-fn entry_e(m: u32, k: u32, cs: f64) -> f64
-    requires { ⌜ m + k < 4096 ⌝ }
-    ensures { λ r. ⌜ r ≡ entryE m k cs ⌝ }
+// Of entry i, counted from 0; zero in the first. The table of a's factors is lent where m is at most 3.
+fn entry_e(table: &[u64], m: u32, parity: u32, i: u32, cs: f64) -> f64
+    requires { ⌜ (parity < 2) × (m + (2 * i + parity) < 4096) × (m < 4 → now table ≡ factorTable) ⌝ }
+    ensures { λ r. ⌜ r ≡ entryE m (2 * i + parity) cs ⌝ }
 {
-    if k < 2 {
+    if i == 0 {
         return 0.0;
     }
-    arith::sqrt(entry_a(m, k - 2, cs) * entry_g(m, k, cs))
+    let a = factors::looked_up(table, m, parity, i - 1) * cs;
+    arith::sqrt(a * entry_g(m, 2 * i + parity, cs))
 }
 
 // Room for the entries of a family.
@@ -53,9 +53,18 @@ pub fn blank() -> Column
     [0.0; 300]
 }
 
-// The first `entries` diagonal and off-diagonal entries, into arrays that are blank.
-pub fn fill(d: &mut [f64; 300], e: &mut [f64; 300], m: u32, parity: u32, cs: f64, entries: u32)
-    requires { ⌜ (m < 1000) × (parity < 2) × (entries ≤ 300) ⌝ }
+// The first `entries` diagonal and off-diagonal entries, into arrays that are blank. What they are does
+// not depend on where a's factors come from.
+pub fn fill(
+    table: &[u64],
+    d: &mut [f64; 300],
+    e: &mut [f64; 300],
+    m: u32,
+    parity: u32,
+    cs: f64,
+    entries: u32,
+)
+    requires { ⌜ (m < 1000) × (parity < 2) × (entries ≤ 300) × (m < 4 → now table ≡ factorTable) ⌝ }
     requires { ⌜ (now d ≡ blankEntries) × (now e ≡ blankEntries) ⌝ }
     ensures { λ _. ⌜ now (d .exit) ≡ diagonal m parity cs entries ⌝ }
     ensures { λ _. ⌜ now (e .exit) ≡ offDiagonal m parity cs entries ⌝ }
@@ -63,9 +72,8 @@ pub fn fill(d: &mut [f64; 300], e: &mut [f64; 300], m: u32, parity: u32, cs: f64
     let mut i: u32 = 0;
     while i < entries {
         let at = i as usize;
-        let k = 2 * i + parity;
-        d[at] = entry_d(m, k, cs);
-        e[at] = entry_e(m, k, cs);
+        d[at] = entry_d(m, 2 * i + parity, cs);
+        e[at] = entry_e(table, m, parity, i, cs);
         i = i + 1;
     }
 }

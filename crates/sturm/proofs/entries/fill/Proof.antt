@@ -9,26 +9,26 @@ use Rattle.sturm.proofs.entries.fill.Statement.{statement}
 use Rattle.sturm.proofs.entries.fill.Tie as tie
 
 abbrev Inv-loop : tie.InvT-loop
-Inv-loop d₀ e₀ m parity cs entries i₀ d e i =
+Inv-loop table d₀ e₀ m parity cs entries i₀ d e i =
     (i ≤ entries)
     × (d ≡ firstEntries (λ k. entryD m k cs) parity i)
     × (e ≡ firstEntries (λ k. entryE m k cs) parity i)
 
 abbrev μ-loop : tie.MeasureT-loop
-μ-loop d₀ e₀ m parity cs entries i₀ d e i = entries - i
+μ-loop table d₀ e₀ m parity cs entries i₀ d e i = entries - i
 
 loop-holds : tie.Need-loop-holds Inv-loop μ-loop
 unfolding firstEntries
-loop-holds c = (omega arith, c .pre .1 .0, c .pre .1 .1)
+loop-holds c = (omega arith, c .before .pre .1 .0, c .before .pre .1 .1)
 
 cast-at : tie.Need-cast-at Inv-loop μ-loop
 cast-at c = search needs
 
-mul-k : tie.Need-mul-k Inv-loop μ-loop
-mul-k c = search needs
+mul-entry-d : tie.Need-mul-entry-d Inv-loop μ-loop
+mul-entry-d c = search needs
 
-add-k : tie.Need-add-k Inv-loop μ-loop
-add-k c = search needs
+add-entry-d : tie.Need-add-entry-d Inv-loop μ-loop
+add-entry-d c = search needs
 
 entry-d-requires : tie.Need-entry-d-requires Inv-loop μ-loop
 entry-d-requires c κs = search needs
@@ -59,7 +59,7 @@ unfolding firstEntries
 loop-again c = let l = c .before .before .before .loop in (omega arith, rw (add-one, l .inv .1, c .before .entry-d .ensures), rw (add-one, l .inv .2, c .entry-e .ensures))
 
 returns : tie.Need-returns Inv-loop μ-loop
-returns c = let h : c .before .loop .i ≡ c .before .before .args .entries = omega arith in (rw (← h) (c .before .loop .inv .1), rw (← h) (c .before .loop .inv .2))
+returns c = let h : c .before .loop .i ≡ c .before .before .before .args .entries = omega arith in (rw (← h) (c .before .loop .inv .1), rw (← h) (c .before .loop .inv .2))
 
 pub fill-spec : {M : Type 1} → statement M
 fill-spec =
@@ -69,8 +69,8 @@ fill-spec =
     μ-loop
     loop-holds
     cast-at
-    mul-k
-    add-k
+    mul-entry-d
+    add-entry-d
     entry-d-requires
     mul-d
     element-write-d

@@ -1,0 +1,3 @@
+-- Lemmas of the proofs.
+pub mod Quotient
+pub mod Places

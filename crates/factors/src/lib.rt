@@ -1,0 +1,8 @@
+// The part of the matrix entry a before cs: from a table for the orders that are asked for most, and
+// worked out elsewhere.
+mod factor_table;
+mod lookup;
+
+pub use factor_table::table;
+pub use lookup::factor_a;
+pub use lookup::looked_up;
