@@ -2,14 +2,14 @@
 use mathlib.Core.Path.{_≡_, refl, sym, ap, _∙_}
 use mathlib.Core.Logic.{_⊎_, inl, inr, ⊎-elim}
 use mathlib.Core.Bool.{Bool, true, false, cond}
-use mathlib.Core.List.{List, [], _∷_, _++_, append-assoc}
+use mathlib.Core.List.{List, [], _∷_, _++_, append-assoc, append-nil}
 use Prim.Native.Nat.{ℕ, zero, suc, _+_, _-_, _*_, _/_, _%_, _^_, _≤_, _<_}
 use native.Mathlib.Nat.{add-assoc, add-suc, pow-suc}
 use native.Mathlib.Decide.{decLe}
 use native.Mathlib.Numerals.{add-one}
 use native.Mathlib.Omega.{arith}
 use borrow.Author.Tests.{lt-ltb, le-ltb}
-use lib.ListN.{length, take, drop, set, length-append, length-drop, length-set}
+use lib.ListN.{length, take, drop, set, length-append, length-drop, length-set, take-append-drop}
 use lib.Seq.{length-take-le, take-at, drop-at, drop-drop, take-set-le, drop-set-lt, getD-set-same, drop-cons, set-split, append-snoc}
 use Rattle.records.specs.Record.{numberAt, marked, widthAt}
 use Rattle.records.specs.Text.{Put, digit, decimalIn, decimal, hexadecimal}
@@ -46,6 +46,10 @@ module _ {before after : List ℕ} {from to : ℕ} {text : List ℕ} (p : Put be
 
   pub put-drop : drop to after ≡ drop to before
   put-drop = ap (drop to) (p .shows) ∙ drop-at (take from before ++ text) (drop to before) to put-front
+
+-- no text at all
+pub put-nothing : (l : List ℕ) (at : ℕ) → at ≤ length l → Put l l at at []
+put-nothing l at h = record { ends = omega arith; fits = h; shows = sym (rw (append-nil (take at l)) (take-append-drop at l)) }
 
 -- one text after another
 pub put-then : {a b c : List ℕ} {f t u : ℕ} {x y : List ℕ} → Put a b f t x → Put b c t u y → Put a c f u (x ++ y)

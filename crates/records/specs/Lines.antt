@@ -48,3 +48,7 @@ fLine index m n value1 derivative1 value2 derivative2 = ascii "F" ++ number inde
 -- `R`: a refusal
 abbrev pub rLine : ℕ → ℕ → List ℕ
 rLine index refusal = ascii "R" ++ number index ++ number refusal ++ newline
+
+-- of Card 7's table: the 16 digits of a double's bits, alone
+abbrev pub bitsLine : ℕ → List ℕ
+bitsLine b = hexadecimal 16 b ++ newline

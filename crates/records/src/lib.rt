@@ -4,6 +4,7 @@ mod line;
 mod record;
 mod text;
 
+pub use line::bits_line;
 pub use line::d_line;
 pub use line::f_line;
 pub use line::pair_line;

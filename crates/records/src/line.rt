@@ -5,7 +5,7 @@ ghost use mathlib.Core.List.{_∷_, _++_};
 ghost use Prim.Native.Nat.{_+_, _≤_};
 ghost use lib.ListN.{length};
 ghost use Rattle.records.specs.Text.{Put};
-ghost use Rattle.records.specs.Lines.{number, double, vLine, zLine, dLine, pairLine, fLine, rLine, bracket, pair};
+ghost use Rattle.records.specs.Lines.{number, double, vLine, zLine, dLine, pairLine, fLine, rLine, bitsLine, bracket, pair};
 use super::text;
 
 // A space and a number.
@@ -166,4 +166,14 @@ pub fn r_line(out: &mut [u8], at: usize, index: u64, refusal: u8) -> usize
     let a = start(out, at, b'R', index);
     let b = number(out, a, refusal as u64);
     text::byte(out, b, b'\n')
+}
+
+// The line of an entry of Card 7's table.
+pub fn bits_line(out: &mut [u8], at: usize, bits: u64) -> usize
+    requires { ⌜ at + 17 ≤ length (now out) ⌝ }
+    ensures { λ r. ⌜ Put (now (out .entry)) (now (out .exit)) at r (bitsLine bits) ⌝ }
+    ensures { λ r. ⌜ r ≡ at + 17 ⌝ }
+{
+    let a = text::hexadecimal(out, at, bits);
+    text::byte(out, a, b'\n')
 }

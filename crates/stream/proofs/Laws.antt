@@ -1,13 +1,12 @@
 -- Laws of the texts that a record is answered with. Assumes nothing.
-use Prim.Native.Nat.{ℕ, _+_, _-_, _≤_}
+use Prim.Native.Nat.{ℕ, _+_, _-_}
 use mathlib.Core.Path.{_≡_, sym, ap, subst, _∙_}
 use mathlib.Core.Bool.{true}
-use mathlib.Core.List.{List, [], append-nil}
-use native.Mathlib.Omega.{arith}
+use mathlib.Core.List.{List}
 use borrow.Author.Tests.{eqb-true}
 use lib.Dec.{eqb}
 use lib.Ieee.{Float}
-use lib.ListN.{length, take, replicate, take-append-drop}
+use lib.ListN.{replicate}
 use Rattle.arith.specs.Double.{#0}
 use Rattle.records.specs.Text.{Put}
 -- for the programs above
@@ -24,10 +23,6 @@ use Rattle.requests.proofs.Laws.{Accepted}
 use Rattle.rows.proofs.Laws.{row-mode, dlmf-mode}
 use Rattle.requests.proofs.Given.{given-filled, given-refused}
 use Rattle.stream.specs.Response.{rowLines, dLines, rowText, dlmfText}
-
--- no text at all
-pub put-nothing : (l : List ℕ) (at : ℕ) → at ≤ length l → Put l l at at []
-put-nothing l at h = record { ends = omega arith; fits = h; shows = sym (rw (append-nil (take at l)) (take-append-drop at l)) }
 
 pub put-same : {a b : List ℕ} {f t : ℕ} {x y : List ℕ} → x ≡ y → Put a b f t x → Put a b f t y
 put-same {a} {b} {f} {t} e p = subst (Put a b f t) e p

@@ -12,11 +12,11 @@ use Rattle.records.specs.declared.record.Record.{Record}
 use Rattle.records.specs.Record.{nextAt}
 use Rattle.records.specs.Lines.{rLine}
 use Rattle.records.specs.Text.{Put}
-use Rattle.records.proofs.Laws.{put-then, put-length}
+use Rattle.records.proofs.Laws.{put-nothing, put-then, put-length}
 use Rattle.stream.specs.declared.stream.Progress.{Progress}
 use Rattle.stream.specs.Response.{responseTo}
 use Rattle.stream.specs.Inside.Calls.{Answered, answeredIn, answered, progress, longest}
-use Rattle.stream.proofs.Laws.{put-nothing, put-same}
+use Rattle.stream.proofs.Laws.{put-same}
 use Rattle.stream.proofs.Nexts.{whole-told, Through, answered-full, answered-through, answered-unmarked, answered-whole}
 
 -- `text` is put, and what is left to do gives what the whole call gives.

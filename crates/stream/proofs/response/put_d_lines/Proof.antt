@@ -6,9 +6,8 @@ use native.Mathlib.Numerals.{add-one}
 use lib.ListN.{length}
 use borrow.Author.Needs.{needs}
 use Rattle.records.specs.Text.{Put}
-use Rattle.records.proofs.Laws.{put-then, put-length}
+use Rattle.records.proofs.Laws.{put-nothing, put-then, put-length}
 use Rattle.stream.specs.Response.{dLines}
-use Rattle.stream.proofs.Laws.{put-nothing}
 use Rattle.stream.proofs.response.put_d_lines.Statement.{statement}
 use Rattle.stream.proofs.response.put_d_lines.Tie as tie
 

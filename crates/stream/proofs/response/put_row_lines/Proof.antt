@@ -6,10 +6,9 @@ use native.Mathlib.Numerals.{add-one}
 use lib.ListN.{length}
 use borrow.Author.Needs.{needs}
 use Rattle.records.specs.Text.{Put}
-use Rattle.records.proofs.Laws.{put-then, put-length}
+use Rattle.records.proofs.Laws.{put-nothing, put-then, put-length}
 use Rattle.segv.specs.Row.{slices}
 use Rattle.stream.specs.Response.{rowLines}
-use Rattle.stream.proofs.Laws.{put-nothing}
 use Rattle.stream.proofs.response.put_row_lines.Statement.{statement}
 use Rattle.stream.proofs.response.put_row_lines.Tie as tie
 

@@ -2,7 +2,7 @@
 use native.Mathlib.Omega.{arith}
 use borrow.Author.Needs.{needs}
 use borrow.Author.Tests.{le-leb, lt-leb}
-use Rattle.stream.proofs.Laws.{put-nothing}
+use Rattle.records.proofs.Laws.{put-nothing}
 use Rattle.stream.proofs.stream.answer_end.Statement.{statement}
 use Rattle.stream.proofs.stream.answer_end.Tie as tie
 
