@@ -77,20 +77,21 @@ table-law =
     (table-length, λ m parity i h k l. table-at m (200 * parity + i) (place m parity i) h (omega arith) (omega arith) ∙ order-at m parity i k l)
 
 -- ---- what is looked up
-pub looked-up-there : (m parity i : ℕ) → m < 4 → parity < 2 → i < 200 → bits (getD factorTable (place m parity i) 0) ≡ factorA m (2 * i + parity)
-looked-up-there m parity i h k l = rw (table-law .1 m parity i h k l) (ofBits-toBits binary64 (factorA m (2 * i + parity)) (div-fits binary64 _ _))
+-- k is the place, as the code has it
+pub looked-up-there : (m parity i k : ℕ) → m < 4 → parity < 2 → i < 200 → k ≡ place m parity i → bits (getD factorTable k 0) ≡ factorA m (2 * i + parity)
+looked-up-there m parity i k h l n e = rw (e, table-law .1 m parity i h l n) (ofBits-toBits binary64 (factorA m (2 * i + parity)) (div-fits binary64 _ _))
 
 pub lookup-law : LookupLaw
 lookup-law m parity i h = go (ltb m 4) (ltb i 200) refl refl
   where
     go : (s t : Bool) → ltb m 4 ≡ s → ltb i 200 ≡ t → cond (s && t) (bits (getD factorTable (place m parity i) 0)) (factorA m (2 * i + parity)) ≡ factorA m (2 * i + parity)
-    go true true p q = looked-up-there m parity i (ltb-true m 4 p) h (ltb-true i 200 q)
+    go true true p q = looked-up-there m parity i (place m parity i) (ltb-true m 4 p) h (ltb-true i 200 q) refl
     go true false p q = refl
     go false t p q = refl
 
 -- no place holds a NaN's pattern
-pub no-nan : (m parity i : ℕ) → m < 4 → parity < 2 → i < 200 → T (not (nanBits binary64 (getD factorTable (place m parity i) 0)))
-no-nan m parity i h k l =
+pub no-nan : (m parity i k : ℕ) → m < 4 → parity < 2 → i < 200 → k ≡ place m parity i → T (not (nanBits binary64 (getD factorTable k 0)))
+no-nan m parity i k h l n e =
     subst (λ (t : Bool). T (not t))
-    (sym (nanBits-is binary64 _ ∙ ap isNan (looked-up-there m parity i h k l ∙ once-rounded m (2 * i + parity) (omega arith)) ∙ round-number false (top m (2 * i + parity)) (bottom m (2 * i + parity))))
+    (sym (nanBits-is binary64 _ ∙ ap isNan (looked-up-there m parity i k h l n e ∙ once-rounded m (2 * i + parity) (omega arith)) ∙ round-number false (top m (2 * i + parity)) (bottom m (2 * i + parity))))
     tt

@@ -35,12 +35,12 @@ shared-slice-read-result c =
 float-from-bits-result : tie.Need-float-from-bits-result
 float-from-bits-result c =
     let a = c .before .before .before .before .args in
-    rw (c .before .before .before .before .pre .2 (omega arith)) (no-nan (a .m) (a .parity) (a .i) (omega arith) (omega arith) (omega arith))
+    rw (c .before .before .before .before .pre .2 (omega arith)) (no-nan (a .m) (a .parity) (a .i) _ (omega arith) (omega arith) (omega arith) (omega arith))
 
 returns : tie.Need-returns
 returns c =
     let a = c .before .before .before .before .args in
-    rw (c .before .before .before .before .pre .2 (omega arith)) (looked-up-there (a .m) (a .parity) (a .i) (omega arith) (omega arith) (omega arith))
+    rw (c .before .before .before .before .pre .2 (omega arith)) (looked-up-there (a .m) (a .parity) (a .i) _ (omega arith) (omega arith) (omega arith) (omega arith))
 
 mul-factor-a : tie.Need-mul-factor-a
 mul-factor-a c = search needs
