@@ -50,6 +50,8 @@ enum Parameter {
     Half,
     BesideHalf,
     Uniform,
+    /// Of rows up to m 3: the matrix has about as many entries as there are factors in Card 7's table.
+    TableEnd,
     Limit,
 }
 
@@ -387,6 +389,9 @@ impl Generator {
         record.m = m;
         record.n = m + offset;
         let parameter = match size {
+            Size::Edge if request.is_row() && m <= 3 && self.random.chance(40) => {
+                Parameter::TableEnd
+            }
             Size::Edge if self.random.chance(30) => Parameter::Limit,
             _ => self.random.weighted(self.mix.parameters),
         };
@@ -414,6 +419,11 @@ impl Generator {
                 beside(whole + random.pick(&[0.5, 1.0]), random.pick(&[-1, 1]))
             }
             Parameter::Uniform => greatest * random.unit(),
+            Parameter::TableEnd => {
+                let entries = random.between(200, 206);
+                let half_offset = f64::from(record.n - record.m) / 2.0;
+                f64::from(entries - 10) - half_offset + 0.99 * random.unit()
+            }
             Parameter::Limit => {
                 let steps = random.pick(&[-1, -2, -3, -1000]);
                 beside(limiting_parameter(record, request), steps)

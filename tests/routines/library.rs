@@ -3,8 +3,17 @@
 
 pub type Places = [f64; 200];
 pub type BesselPlaces = [f64; 252];
+pub type Entries = [f64; 300];
 
 unsafe extern "C" {
+    pub safe fn routines_fill(
+        m: u32,
+        parity: u32,
+        cs: f64,
+        entries: u32,
+        d: &mut Entries,
+        e: &mut Entries,
+    );
     pub safe fn routines_sdmn(m: u32, n: u32, c: f64, cv: f64, kd: f64, df: &mut Places);
     pub safe fn routines_sckb(df: &Places, m: u32, n: u32, c: f64, ck: &mut Places);
     pub safe fn routines_aswfa(

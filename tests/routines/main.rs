@@ -20,12 +20,13 @@ use std::process::ExitCode;
 use generator::Generator;
 use known::Input;
 use library::{
-    BesselPlaces, Places, routines_aswfa, routines_cbk, routines_kmn, routines_msta1, routines_msta2,
-    routines_qstar, routines_sckb, routines_sdmn, routines_sphj, routines_sphy,
+    BesselPlaces, Entries, Places, routines_aswfa, routines_cbk, routines_fill, routines_kmn,
+    routines_msta1, routines_msta2, routines_qstar, routines_sckb, routines_sdmn, routines_sphj,
+    routines_sphy,
 };
 use oracle::answer::{self, Build};
 use oracle::orders;
-use oracle::reading::{coefficient_refusal, highest_order, refusal};
+use oracle::reading::{coefficient_refusal, highest_order, matrix_terms, refusal};
 use oracle::record::{Kind, Record, Request, hex, same};
 use random::Random;
 use tally::Tally;
@@ -43,6 +44,7 @@ const DIGITS: u32 = 15;
 
 /// What every routine is held against, in the order in which the routines need each other.
 struct Tallies {
+    matrix: Tally,
     sdmn: Tally,
     sckb: Tally,
     aswfa: Tally,
@@ -68,6 +70,7 @@ fn main() -> ExitCode {
     let seed = numbers.get(1).copied().unwrap_or(DEFAULT_SEED);
     println!("{count} modes of fresh records, seed {seed}, and those of {KNOWN_RECORDS}");
     let mut tallies = Tallies {
+        matrix: Tally::new("matrix entries"),
         sdmn: Tally::new("sdmn"),
         sckb: Tally::new("sckb"),
         aswfa: Tally::new("aswfa by the power rule"),
@@ -91,6 +94,7 @@ fn main() -> ExitCode {
             tallies.compare_mode(kind, record);
         }
     }
+    tallies.compare_matrices(count, seed);
     tallies.compare_orders(count, seed);
     let mut generator = Generator::new(seed);
     let mut compared = 0;
@@ -170,6 +174,50 @@ impl Tallies {
         }
     }
 
+    /// Matrices of both parities, every place of them. Four in five have an order up to 4, where a's
+    /// factors come from a table: few rows show a wrong factor past the first 200 entries.
+    fn compare_matrices(&mut self, count: usize, seed: u64) {
+        let mut random = Random::new(seed);
+        for at in 0..count / 10 {
+            let m = match at % 5 {
+                0 => random.between(5, 199),
+                _ => random.between(0, 4),
+            };
+            let entries = match at % 3 {
+                0 => random.between(1, 300),
+                1 => random.between(195, 210),
+                _ => 300,
+            };
+            let c = random.log_uniform(1e-10, 290.0);
+            for cs in [c * c, -c * c] {
+                for parity in 0..2 {
+                    self.compare_matrix(m.into(), parity, cs, entries.into());
+                }
+            }
+        }
+    }
+
+    fn compare_matrix(&mut self, m: u32, parity: u32, cs: f64, entries: u32) {
+        let terms = |entry: u32| matrix_terms(m.into(), (2 * entry + parity).into(), cs);
+        let [mut d, mut e]: [Entries; 2] = [[0.0; 300]; 2];
+        for entry in 0..entries {
+            let (_, diagonal, g) = terms(entry);
+            d[entry as usize] = diagonal;
+            if entry > 0 {
+                let (a, ..) = terms(entry - 1);
+                e[entry as usize] = (a * g).sqrt();
+            }
+        }
+        let [mut our_d, mut our_e]: [Entries; 2] = [[7.5; 300]; 2];
+        routines_fill(m, parity, cs, entries, &mut our_d, &mut our_e);
+        for (ours, theirs) in [(our_d, d), (our_e, e)] {
+            let other = (0..300).find(|&at| !same(ours[at], theirs[at]));
+            self.matrix.count(other.is_none(), || {
+                format!("m {m} parity {parity} cs {cs:?} entries {entries}: place {other:?}")
+            });
+        }
+    }
+
     /// Arguments that operation 8 accepts, and as many that lead to other trial orders, for which the
     /// answer is 0.
     fn compare_orders(&mut self, count: usize, seed: u64) {
@@ -240,6 +288,7 @@ impl Tallies {
 
     fn report(&self) -> ExitCode {
         let all = [
+            &self.matrix,
             &self.sdmn,
             &self.sckb,
             &self.aswfa,

@@ -4,6 +4,7 @@ ghost use mathlib.Core.Path.{_≡_};
 ghost use mathlib.Core.Bool.{cond};
 ghost use lib.Dec.{eqb};
 ghost use Prim.Native.Nat.{_<_, _≤_};
+ghost use Rattle.sturm.specs.Entries.{diagonal, offDiagonal};
 ghost use Rattle.expansion.specs.Terms.{Usable};
 ghost use Rattle.expansion.specs.Sdmn as Sdmn;
 ghost use Rattle.expansion.specs.Sckb as Sckb;
@@ -15,6 +16,32 @@ ghost use Rattle.bessel.specs.Msta1 as Msta1;
 ghost use Rattle.bessel.specs.Msta2 as Msta2;
 ghost use Rattle.bessel.specs.Sphj as Sphj;
 ghost use Rattle.bessel.specs.Sphy as Sphy;
+
+// The diagonal of one parity's matrix and the roots beside it, with a's factors from the table where a
+// row takes them from there.
+#[no_mangle]
+pub extern "C" fn routines_fill(
+    m: u32,
+    parity: u32,
+    cs: f64,
+    entries: u32,
+    d: &mut [f64; 300],
+    e: &mut [f64; 300],
+)
+    requires { ⌜ (m < 1000) × (parity < 2) × (entries ≤ 300) ⌝ }
+    ensures { λ _. ⌜ now (d .exit) ≡ diagonal m parity cs entries ⌝ }
+    ensures { λ _. ⌜ now (e .exit) ≡ offDiagonal m parity cs entries ⌝ }
+{
+    *d = sturm::blank();
+    *e = sturm::blank();
+    if m < 4 {
+        let table = factors::table();
+        sturm::fill(&table, d, e, m, parity, cs, entries);
+        return;
+    }
+    let none: [u64; 1] = [0];
+    sturm::fill(&none, d, e, m, parity, cs, entries);
+}
 
 // kd is 1 or -1.
 #[no_mangle]
