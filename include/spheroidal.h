@@ -43,10 +43,11 @@
  * is the length of a row, (size_t)(n - m) + 1. The constants below need no cast.
  *
  * The functions keep no state, allocate nothing, touch no errno and may run in any number of threads
- * at once. Measured on x86-64, they use up to 29,400 bytes of stack in rows, 35,100 in DLMF rows,
- * 14,400 in radial functions and 5,200 in the others. Before 6.0 DLMF rows used 400 bytes less, with
- * steps of 16 bits; before 3.0.1 rows of both forms used 2,416 bytes more than after, for a buffer of
- * squares.
+ * at once. Measured on x86-64, they use up to 42,200 bytes of stack in rows, 47,900 in DLMF rows,
+ * 14,400 in radial functions and 5,200 in the others. Before 6.0.1 rows of both forms used 12,816 bytes
+ * less: since then they have a table of factors there, where m is at most 3. Before 6.0 DLMF rows used
+ * 400 bytes less, with steps of 16 bits; before 3.0.1 rows of both forms used 2,416 bytes more than
+ * after, for a buffer of squares.
  */
 #ifndef SPHEROIDAL_H
 #define SPHEROIDAL_H
@@ -60,8 +61,8 @@
  */
 #define SPHEROIDAL_VERSION_MAJOR 6
 #define SPHEROIDAL_VERSION_MINOR 0
-#define SPHEROIDAL_VERSION_PATCH 0
-#define SPHEROIDAL_VERSION "6.0.0"
+#define SPHEROIDAL_VERSION_PATCH 1
+#define SPHEROIDAL_VERSION "6.0.1"
 
 /*
  * What a function answers. 1 to 3 are refusals of the record program and never come from here. Let

@@ -25,7 +25,7 @@ use std::error::Error;
 use std::fmt;
 
 /// The version, that of the header; which of its numbers moves when is said there.
-pub const VERSION: &str = "6.0.0";
+pub const VERSION: &str = "6.0.1";
 
 /// The largest m.
 pub const LARGEST_ORDER: u16 = 199;

@@ -174,8 +174,8 @@ impl Tallies {
         }
     }
 
-    /// Matrices of both parities, every place of them. Four in five have an order up to 4, where a's
-    /// factors come from a table: few rows show a wrong factor past the first 200 entries.
+    /// Matrices of both parities, every place of them. Four in five have an order up to 4: up to 3 a's
+    /// factors come from a table, and few rows show a wrong one past the first 200 entries.
     fn compare_matrices(&mut self, count: usize, seed: u64) {
         let mut random = Random::new(seed);
         for at in 0..count / 10 {

@@ -58,7 +58,7 @@ fn write_row(
     }
 }
 
-// The row with the table of a's factors lent, which it asks for where m is at most 3.
+// The row with the table of a's factors lent, where m is at most 3.
 fn row_with(
     table: &[u64],
     m: u32,
@@ -136,6 +136,7 @@ pub fn segv(
             substituted,
         );
     }
+    // Larger orders read no table.
     let none: [u64; 1] = [0];
     row_with(
         &none,
