@@ -1,14 +1,13 @@
 -- The table's places, and what is looked up there. Assumes nothing.
-use Prim.Native.Nat.{ℕ, zero, suc, _+_, _*_, _≤_, _<_}
+use Prim.Native.Nat.{ℕ, zero, suc, _+_, _*_, _<_}
 use mathlib.Core.Path.{_≡_, refl, sym, ap, subst, _∙_}
 use mathlib.Core.Bool.{Bool, true, false, not, cond, _&&_}
-use mathlib.Core.List.{List, [], _∷_, _++_}
-use native.Mathlib.Nat.{add-zero, add-assoc}
+use mathlib.Core.List.{List, _++_}
+use native.Mathlib.Nat.{add-zero}
 use native.Mathlib.Omega.{arith}
-use native.Mathlib.Numerals.{add-one}
-use borrow.Author.Tests.{lt-ltb, le-ltb, ltb-true}
+use borrow.Author.Tests.{ltb-true}
 use lib.Dec.{T, ltb}
-use lib.Ieee.{Float, binary64, isNan, nanBits}
+use lib.Ieee.{binary64, isNan, nanBits}
 use lib.Ieee.Bits.{ofBits-toBits, nanBits-is}
 use lib.Ieee.Fits.{div-fits}
 use lib.ListN.{getD, length, length-append, List·getD-append}
@@ -16,7 +15,7 @@ use lib.Seq.{getD-append-add}
 use Rattle.arith.specs.Double.{bits, bitsOf}
 use Rattle.arith.proofs.Laws.{round-number}
 use Rattle.factors.specs.Factors.{factorA, bitsFrom, bitsOfOrder, factorTable}
-use Rattle.factors.specs.Lookup.{place, TableLaw, lookedUp, LookupLaw}
+use Rattle.factors.specs.Lookup.{place, TableLaw, LookupLaw}
 use Rattle.factors.proofs.Quotient.{top, bottom, once-rounded}
 
 -- ---- lists one after the other

@@ -6,9 +6,9 @@ use mathlib.Core.List.{List, [], _∷_, _++_}
 use native.Mathlib.Nat.{mul-pos, mul-le-mul}
 use native.Mathlib.Omega.{arith}
 use lib.Ieee.{Float, binary64, round, ofInt, ofBits}
-use Rattle.arith.specs.Double.{_⊕_, _⊗_, _⊘_, dbl, bitsOf, #1, #2, #3, #5}
+use Rattle.arith.specs.Double.{_⊕_, _⊗_, dbl, bitsOf, #1, #2, #3, #5}
 use Rattle.arith.proofs.Laws.{dbl-sum, dbl-product, dbl-quotient}
-use Rattle.factors.specs.Factors.{factorA, bitsFrom, bitsOfOrder, factorTable}
+use Rattle.factors.specs.Factors.{bitsFrom, bitsOfOrder, factorTable}
 use Rattle.factors.specs.Lookup.{OnceRounded}
 
 one : #1 ≡ dbl 1
@@ -27,6 +27,7 @@ five : #5 ≡ dbl 5
 unfolding ofInt ofBits
 five = refl
 
+-- numerator and denominator
 abbrev pub top : ℕ → ℕ → ℕ
 top m k = (2 * m + k + 2) * (2 * m + k + 1)
 
@@ -53,7 +54,7 @@ unfoldable pub quotientsFrom : ℕ → ℕ → ℕ → ℕ → List ℕ
 quotientsFrom m parity i zero = []
 quotientsFrom m parity i (suc n) = bitsOf (round binary64 false (top m (2 * i + parity)) (bottom m (2 * i + parity))) ∷ quotientsFrom m parity (i + 1) n
 
-pub from-quotients : (m parity i n : ℕ) → m + (2 * (i + n) + parity) < 4096 → bitsFrom m parity i n ≡ quotientsFrom m parity i n
+from-quotients : (m parity i n : ℕ) → m + (2 * (i + n) + parity) < 4096 → bitsFrom m parity i n ≡ quotientsFrom m parity i n
 unfolding bitsFrom quotientsFrom
 from-quotients m parity i zero h = refl
 from-quotients m parity i (suc n) h =

@@ -1,9 +1,6 @@
 -- `factors::lookup::looked_up` meets its contract: the place is the entry's own, and what it holds are the bits of its factor. Assumes nothing.
-use mathlib.Core.Path.{_≡_}
-use Prim.Native.Nat.{_<_}
 use native.Mathlib.Omega.{arith}
 use borrow.Author.Needs.{needs}
-use lib.ListN.{length}
 use Rattle.factors.proofs.Places.{table-length, looked-up-there, no-nan}
 use Rattle.factors.proofs.lookup.looked_up.Statement.{statement}
 use Rattle.factors.proofs.lookup.looked_up.Tie as tie
