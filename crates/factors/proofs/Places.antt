@@ -2,7 +2,7 @@
 use Prim.Native.Nat.{ℕ, zero, suc, _+_, _*_, _<_}
 use mathlib.Core.Path.{_≡_, refl, sym, ap, subst, _∙_}
 use mathlib.Core.Bool.{Bool, true, false, not, cond, _&&_}
-use mathlib.Core.List.{List, _++_}
+use mathlib.Core.List.{List, [], _∷_, _++_}
 use native.Mathlib.Nat.{add-zero}
 use native.Mathlib.Omega.{arith}
 use borrow.Author.Tests.{ltb-true}
@@ -10,13 +10,28 @@ use lib.Dec.{T, ltb}
 use lib.Ieee.{binary64, isNan, nanBits}
 use lib.Ieee.Bits.{ofBits-toBits, nanBits-is}
 use lib.Ieee.Fits.{div-fits}
-use lib.ListN.{getD, length, length-append, List·getD-append}
-use lib.Seq.{getD-append-add}
+use lib.ListN.{getD, length, take, drop, set, length-append, length-drop, List·getD-append}
+use lib.Seq.{getD-append-add, getD-drop, take-all, take-suc, take-suc-set}
 use Rattle.arith.specs.Double.{bits, bitsOf}
 use Rattle.arith.proofs.Laws.{round-number}
 use Rattle.factors.specs.Factors.{factorA, bitsFrom, bitsOfOrder, factorTable}
 use Rattle.factors.specs.Lookup.{place, TableLaw, LookupLaw}
 use Rattle.factors.proofs.Quotient.{top, bottom, once-rounded}
+
+-- ---- a part of a list, copied place by place
+
+-- one place more
+pub one-more : (table out : List ℕ) (from i : ℕ) → from + i < length table → i < length out → take i out ≡ take i (drop from table)
+    → take (suc i) (set out i (getD table (from + i) 0)) ≡ take (suc i) (drop from table)
+one-more table out from i h k e =
+    let x = getD table (from + i) 0 in
+    take-suc-set out i x k
+    ∙ ap (λ (l : List ℕ). l ++ (x ∷ [])) e
+    ∙ ap (λ (y : ℕ). take i (drop from table) ++ (y ∷ [])) (sym (getD-drop from table i 0))
+    ∙ sym (take-suc (drop from table) i 0 (rw length-drop (omega arith)))
+
+pub all-copied : (part out : List ℕ) (i : ℕ) → i ≡ 200 → length out ≡ 200 → take i out ≡ take i part → out ≡ take 200 part
+all-copied part out i h l e = sym (take-all 200 out (omega arith)) ∙ rw h at e
 
 -- ---- lists one after the other
 
@@ -25,7 +40,7 @@ past : (xs ys : List ℕ) (n k j : ℕ) → length xs ≡ n → k ≡ n + j → 
 past xs ys n k j e h = rw (h, ← e) (getD-append-add xs ys j 0)
 
 -- ---- a family's entries
-length-bits : (m parity i n : ℕ) → length (bitsFrom m parity i n) ≡ n
+pub length-bits : (m parity i n : ℕ) → length (bitsFrom m parity i n) ≡ n
 unfolding bitsFrom
 length-bits m parity i zero = refl
 length-bits m parity i (suc n) = ap suc (length-bits m parity (i + 1) n)
@@ -76,21 +91,26 @@ table-law =
     (table-length, λ m parity i h k l. table-at m (200 * parity + i) (place m parity i) h (omega arith) (omega arith) ∙ order-at m parity i k l)
 
 -- ---- what is looked up
--- k is the place, as the code has it
-pub looked-up-there : (m parity i k : ℕ) → m < 4 → parity < 2 → i < 200 → k ≡ place m parity i → bits (getD factorTable k 0) ≡ factorA m (2 * i + parity)
-looked-up-there m parity i k h l n e = rw (e, table-law .1 m parity i h l n) (ofBits-toBits binary64 (factorA m (2 * i + parity)) (div-fits binary64 _ _))
 
+-- in a family's own part
+pub read-there : (m parity i : ℕ) → i < 200 → bits (getD (bitsFrom m parity 0 200) i 0) ≡ factorA m (2 * i + parity)
+read-there m parity i h =
+    let z : 0 + i ≡ i = omega arith in
+    rw (bits-at m parity 0 200 i h, z) (ofBits-toBits binary64 (factorA m (2 * i + parity)) (div-fits binary64 _ _))
+
+-- no place of it holds a NaN's pattern
+pub no-nan : (m parity i : ℕ) → m < 4 → parity < 2 → i < 200 → T (not (nanBits binary64 (getD (bitsFrom m parity 0 200) i 0)))
+no-nan m parity i h k l =
+    subst (λ (t : Bool). T (not t))
+    (sym (nanBits-is binary64 _ ∙ ap isNan (read-there m parity i l ∙ once-rounded m (2 * i + parity) (omega arith)) ∙ round-number false (top m (2 * i + parity)) (bottom m (2 * i + parity))))
+    tt
+
+-- in the whole table
 pub lookup-law : LookupLaw
 lookup-law m parity i h = go (ltb m 4) (ltb i 200) refl refl
   where
     go : (s t : Bool) → ltb m 4 ≡ s → ltb i 200 ≡ t → cond (s && t) (bits (getD factorTable (place m parity i) 0)) (factorA m (2 * i + parity)) ≡ factorA m (2 * i + parity)
-    go true true p q = looked-up-there m parity i (place m parity i) (ltb-true m 4 p) h (ltb-true i 200 q) refl
+    go true true p q =
+        rw (table-law .1 m parity i (ltb-true m 4 p) h (ltb-true i 200 q)) (ofBits-toBits binary64 (factorA m (2 * i + parity)) (div-fits binary64 _ _))
     go true false p q = refl
     go false t p q = refl
-
--- no place holds a NaN's pattern
-pub no-nan : (m parity i k : ℕ) → m < 4 → parity < 2 → i < 200 → k ≡ place m parity i → T (not (nanBits binary64 (getD factorTable k 0)))
-no-nan m parity i k h l n e =
-    subst (λ (t : Bool). T (not t))
-    (sym (nanBits-is binary64 _ ∙ ap isNan (looked-up-there m parity i k h l n e ∙ once-rounded m (2 * i + parity) (omega arith)) ∙ round-number false (top m (2 * i + parity)) (bottom m (2 * i + parity))))
-    tt

@@ -5,15 +5,13 @@ ghost use Rattle.factors.specs.Factors.{factorTable};
 
 pub type Table = [u64; 1600];
 
-// The compiler makes a store of each number wherever the constant is used, so this is its one use: a row
-// takes the table once and lends it.
 pub fn table() -> Table
     ensures { λ r. ⌜ r ≡ factorTable ⌝ }
 {
     FACTORS
 }
 
-const FACTORS: [u64; 1600] = [
+pub(crate) const FACTORS: [u64; 1600] = [
     0x3fc1_1111_1111_1111,
     0x3fc8_6186_1861_8618,
     0x3fca_da67_d508_f378,

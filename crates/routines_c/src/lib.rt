@@ -17,8 +17,7 @@ ghost use Rattle.bessel.specs.Msta2 as Msta2;
 ghost use Rattle.bessel.specs.Sphj as Sphj;
 ghost use Rattle.bessel.specs.Sphy as Sphy;
 
-// The diagonal of one parity's matrix and the roots beside it, with a's factors from the table where a
-// row takes them from there.
+// The diagonal of one parity's matrix and the roots beside it.
 #[no_mangle]
 pub extern "C" fn routines_fill(
     m: u32,
@@ -34,13 +33,7 @@ pub extern "C" fn routines_fill(
 {
     *d = sturm::blank();
     *e = sturm::blank();
-    if m < 4 {
-        let table = factors::table();
-        sturm::fill(&table, d, e, m, parity, cs, entries);
-        return;
-    }
-    let none: [u64; 1] = [0];
-    sturm::fill(&none, d, e, m, parity, cs, entries);
+    sturm::fill(d, e, m, parity, cs, entries);
 }
 
 // kd is 1 or -1.

@@ -2,7 +2,6 @@
 ghost use mathlib.Core.Path.{_≡_};
 ghost use Prim.Native.Nat.{_-_, _<_, _≤_};
 ghost use lib.ListN.{replicate};
-ghost use Rattle.factors.specs.Factors.{factorTable};
 ghost use Rattle.segv.specs.Inside.Arrays.{ends};
 ghost use Rattle.segv.specs.Families as Families;
 use super::bisection::Bracket;
@@ -120,9 +119,8 @@ fn bisect_family(
     }
 }
 
-// The family of one parity, 0 even and 1 odd. The table of a's factors is lent where m is at most 3.
+// The family of one parity, 0 even and 1 odd.
 pub(crate) fn family_of(
-    table: &[u64],
     m: u32,
     parity: u32,
     cs: f64,
@@ -130,12 +128,12 @@ pub(crate) fn family_of(
     places: usize,
     allowance: u32,
 ) -> Family
-    requires { ⌜ (m < 1000) × (parity < 2) × (0 < entries) × (entries ≤ 300) × (places ≤ 100) × (m < 4 → now table ≡ factorTable) ⌝ }
+    requires { ⌜ (m < 1000) × (parity < 2) × (0 < entries) × (entries ≤ 300) × (places ≤ 100) ⌝ }
     ensures { λ r. ⌜ r ≡ Families.familyOf m parity cs entries places allowance ⌝ }
 {
     let mut d = sturm::blank();
     let mut e = sturm::blank();
-    sturm::fill(table, &mut d, &mut e, m, parity, cs, entries);
+    sturm::fill(&mut d, &mut e, m, parity, cs, entries);
     let k = entries as usize;
     let bounds = sturm::gershgorin(&d, &e, k);
     bisect_family(&d, &e, k, places, allowance, bounds)

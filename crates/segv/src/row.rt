@@ -2,7 +2,6 @@
 ghost use mathlib.Core.Path.{_≡_};
 ghost use Prim.Native.Nat.{_+_, _-_, _<_, _≤_};
 ghost use lib.ListN.{length};
-ghost use Rattle.factors.specs.Factors.{factorTable};
 ghost use Rattle.segv.specs.Families.{bothFamilies};
 ghost use Rattle.segv.specs.Inside.Arrays.{families};
 ghost use Rattle.segv.specs.Row as Row;
@@ -58,49 +57,6 @@ fn write_row(
     }
 }
 
-// The row with the table of a's factors lent, where m is at most 3.
-fn row_with(
-    table: &[u64],
-    m: u32,
-    n: u32,
-    cs: f64,
-    entries: u32,
-    allowance: u32,
-    values: &mut [f64],
-    steps: &mut [u32],
-    lowers: &mut [f64],
-    uppers: &mut [f64],
-    substituted: &mut [u8],
-) -> u8
-    requires { ⌜ (m < 1000) × (m ≤ n) × (n < m + 200) × (0 < entries) × (entries ≤ 300) × (m < 4 → now table ≡ factorTable) ⌝ }
-    requires { ⌜ (n - m < length (now values)) × (n - m < length (now steps)) × (n - m < length (now lowers)) × (n - m < length (now uppers)) × (n - m < length (now substituted)) ⌝ }
-    ensures { λ r. ⌜ answer r (slices (now (values .exit)) (now (steps .exit)) (now (lowers .exit)) (now (uppers .exit)) (now (substituted .exit)))
-        ≡ segvRow (bothFamilies m n cs entries allowance) (n - m + 1) (slices (now (values .entry)) (now (steps .entry)) (now (lowers .entry)) (now (uppers .entry)) (now (substituted .entry))) ⌝ }
-{
-    let places = ((n - m + 2) / 2) as usize;
-    let even = super::families::family_of(table, m, 0, cs, entries, places, allowance);
-    if even.stopped {
-        return 10;
-    }
-    let odd = super::families::family_of(table, m, 1, cs, entries, places, allowance);
-    if odd.stopped {
-        return 10;
-    }
-    let even_brackets = even.brackets;
-    let odd_brackets = odd.brackets;
-    write_row(
-        even_brackets,
-        odd_brackets,
-        (n - m + 1) as usize,
-        values,
-        steps,
-        lowers,
-        uppers,
-        substituted,
-    );
-    0
-}
-
 // The row of the modes from m to n: 10 where a place is out of steps, and else 0 with the slices
 // filled. Nothing is written before both families are through.
 pub fn segv(
@@ -120,35 +76,26 @@ pub fn segv(
     ensures { λ r. ⌜ answer r (slices (now (values .exit)) (now (steps .exit)) (now (lowers .exit)) (now (uppers .exit)) (now (substituted .exit)))
         ≡ segvRow (bothFamilies m n cs entries allowance) (n - m + 1) (slices (now (values .entry)) (now (steps .entry)) (now (lowers .entry)) (now (uppers .entry)) (now (substituted .entry))) ⌝ }
 {
-    if m < 4 {
-        let table = factors::table();
-        return row_with(
-            &table,
-            m,
-            n,
-            cs,
-            entries,
-            allowance,
-            values,
-            steps,
-            lowers,
-            uppers,
-            substituted,
-        );
+    let places = ((n - m + 2) / 2) as usize;
+    let even = super::families::family_of(m, 0, cs, entries, places, allowance);
+    if even.stopped {
+        return 10;
     }
-    // Larger orders read no table.
-    let none: [u64; 1] = [0];
-    row_with(
-        &none,
-        m,
-        n,
-        cs,
-        entries,
-        allowance,
+    let odd = super::families::family_of(m, 1, cs, entries, places, allowance);
+    if odd.stopped {
+        return 10;
+    }
+    let even_brackets = even.brackets;
+    let odd_brackets = odd.brackets;
+    write_row(
+        even_brackets,
+        odd_brackets,
+        (n - m + 1) as usize,
         values,
         steps,
         lowers,
         uppers,
         substituted,
-    )
+    );
+    0
 }

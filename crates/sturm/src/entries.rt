@@ -1,7 +1,7 @@
 // Matrix entries of the modes of order m whose degree is m + k, k of one parity.
 ghost use mathlib.Core.Path.{_≡_};
 ghost use Prim.Native.Nat.{_+_, _*_, _<_, _≤_};
-ghost use Rattle.factors.specs.Factors.{factorTable};
+ghost use Rattle.factors.specs.Factors.{bitsFrom};
 ghost use Rattle.sturm.specs.Entries.{entryA, entryD, entryG, entryE, blankEntries, diagonal, offDiagonal};
 
 pub fn entry_a(m: u32, k: u32, cs: f64) -> f64
@@ -31,15 +31,15 @@ pub fn entry_g(m: u32, k: u32, cs: f64) -> f64
     dk * (dk - 1.0) / ((dk2 - 3.0) * (dk2 - 1.0)) * cs
 }
 
-// Of entry i, counted from 0; zero in the first. The table of a's factors is lent where m is at most 3.
-fn entry_e(table: &[u64], m: u32, parity: u32, i: u32, cs: f64) -> f64
-    requires { ⌜ (parity < 2) × (m + (2 * i + parity) < 4096) × (m < 4 → now table ≡ factorTable) ⌝ }
+// Of entry i, counted from 0; zero in the first. The family's factors are lent where m is at most 3.
+fn entry_e(block: &[u64], m: u32, parity: u32, i: u32, cs: f64) -> f64
+    requires { ⌜ (parity < 2) × (m + (2 * i + parity) < 4096) × (m < 4 → now block ≡ bitsFrom m parity 0 200) ⌝ }
     ensures { λ r. ⌜ r ≡ entryE m (2 * i + parity) cs ⌝ }
 {
     if i == 0 {
         return 0.0;
     }
-    let a = factors::looked_up(table, m, parity, i - 1) * cs;
+    let a = factors::looked_up(block, m, parity, i - 1) * cs;
     arith::sqrt(a * entry_g(m, 2 * i + parity, cs))
 }
 
@@ -53,10 +53,10 @@ pub fn blank() -> Column
     [0.0; 300]
 }
 
-// The first `entries` diagonal and off-diagonal entries, into arrays that are blank. What they are does
-// not depend on where a's factors come from.
-pub fn fill(
-    table: &[u64],
+// The first `entries` diagonal and off-diagonal entries, into arrays that are blank, with a's factors
+// lent where m is at most 3.
+fn fill_with(
+    block: &[u64],
     d: &mut [f64; 300],
     e: &mut [f64; 300],
     m: u32,
@@ -64,7 +64,7 @@ pub fn fill(
     cs: f64,
     entries: u32,
 )
-    requires { ⌜ (m < 1000) × (parity < 2) × (entries ≤ 300) × (m < 4 → now table ≡ factorTable) ⌝ }
+    requires { ⌜ (m < 1000) × (parity < 2) × (entries ≤ 300) × (m < 4 → now block ≡ bitsFrom m parity 0 200) ⌝ }
     requires { ⌜ (now d ≡ blankEntries) × (now e ≡ blankEntries) ⌝ }
     ensures { λ _. ⌜ now (d .exit) ≡ diagonal m parity cs entries ⌝ }
     ensures { λ _. ⌜ now (e .exit) ≡ offDiagonal m parity cs entries ⌝ }
@@ -73,7 +73,24 @@ pub fn fill(
     while i < entries {
         let at = i as usize;
         d[at] = entry_d(m, 2 * i + parity, cs);
-        e[at] = entry_e(table, m, parity, i, cs);
+        e[at] = entry_e(block, m, parity, i, cs);
         i = i + 1;
     }
+}
+
+// The same. What the entries are does not depend on where a's factors come from.
+pub fn fill(d: &mut [f64; 300], e: &mut [f64; 300], m: u32, parity: u32, cs: f64, entries: u32)
+    requires { ⌜ (m < 1000) × (parity < 2) × (entries ≤ 300) ⌝ }
+    requires { ⌜ (now d ≡ blankEntries) × (now e ≡ blankEntries) ⌝ }
+    ensures { λ _. ⌜ now (d .exit) ≡ diagonal m parity cs entries ⌝ }
+    ensures { λ _. ⌜ now (e .exit) ≡ offDiagonal m parity cs entries ⌝ }
+{
+    if m < 4 {
+        let block = factors::family_block(m, parity);
+        fill_with(&block, d, e, m, parity, cs, entries);
+        return;
+    }
+    // Larger orders read no table.
+    let none: [u64; 1] = [0];
+    fill_with(&none, d, e, m, parity, cs, entries);
 }

@@ -1,20 +1,41 @@
 -- `segv::row::segv` meets its contract. Assumes nothing.
-use native.Mathlib.Omega.{arith}
+use Rattle.segv.proofs.Laws as laws
 use borrow.Author.Needs.{needs}
 use Rattle.segv.proofs.row.segv.Statement.{statement}
 use Rattle.segv.proofs.row.segv.Tie as tie
 
-table-requires : tie.Need-table-requires
-table-requires c κs = search needs
+sub-places : tie.Need-sub-places
+sub-places c = search needs
 
-slice-aggregate-row-with : tie.Need-slice-aggregate-row-with
-slice-aggregate-row-with c = search needs
+add-places : tie.Need-add-places
+add-places c = search needs
 
-row-with-requires : tie.Need-row-with-requires
-row-with-requires c κs =
-    let start = c .before .before .before .before .before .before .before .before .before .before .before .before .before in
-    let pre = start .pre .0 in
-    ((pre .0, pre .1, pre .2, pre .3, pre .4, λ _. c .before .before .before .before .before .before .table .ensures), start .pre .1)
+cast-places : tie.Need-cast-places
+cast-places c = search needs
+
+family-of-requires : tie.Need-family-of-requires
+family-of-requires c κs = search needs
+
+returns : tie.Need-returns
+returns c = laws.even-out-of-steps _ _ _ _ _ _ _ _ (c .before .family-of .ensures) (c .if1 .taken)
+
+family-of-requires-2 : tie.Need-family-of-requires-2
+family-of-requires-2 c κs = search needs
+
+returns-2 : tie.Need-returns-2
+returns-2 c = laws.odd-out-of-steps _ _ _ _ _ _ _ _ _ (c .before .before .before .family-of .ensures) (c .before .family-of2 .ensures) (c .before .before .if1 .left) (c .if2 .taken)
+
+sub-write-row : tie.Need-sub-write-row
+sub-write-row c = search needs
+
+add-write-row : tie.Need-add-write-row
+add-write-row c = search needs
+
+cast-write-row : tie.Need-cast-write-row
+cast-write-row c = search needs
+
+write-row-requires : tie.Need-write-row-requires
+write-row-requires c κs = search needs
 
 same-length : tie.Need-same-length
 same-length c = search needs
@@ -31,54 +52,30 @@ same-length-4 c = search needs
 same-length-5 : tie.Need-same-length-5
 same-length-5 c = search needs
 
-returns : tie.Need-returns
-returns c = search needs
-
-slice-aggregate-row-with-2 : tie.Need-slice-aggregate-row-with-2
-slice-aggregate-row-with-2 c = search needs
-
-row-with-requires-2 : tie.Need-row-with-requires-2
-row-with-requires-2 c κs =
-    let start = c .before .before .before .before .before .before .before .before .before .before .before .before in
-    let pre = start .pre .0 in
-    ((pre .0, pre .1, pre .2, pre .3, pre .4, λ small. absurd (omega arith)), start .pre .1)
-
-same-length-6 : tie.Need-same-length-6
-same-length-6 c = search needs
-
-same-length-7 : tie.Need-same-length-7
-same-length-7 c = search needs
-
-same-length-8 : tie.Need-same-length-8
-same-length-8 c = search needs
-
-same-length-9 : tie.Need-same-length-9
-same-length-9 c = search needs
-
-same-length-10 : tie.Need-same-length-10
-same-length-10 c = search needs
-
-returns-2 : tie.Need-returns-2
-returns-2 c = search needs
+returns-3 : tie.Need-returns-3
+returns-3 c =
+    let after = c .before .before .before .before .before .before .before .before .before .before in
+    let two = after .before .before .before .before .before .before .before .before in
+    laws.both _ _ _ _ _ _ _ _ _ _ (two .before .before .before .family-of .ensures) (two .before .family-of2 .ensures) (two .before .before .if1 .left) (two .if2 .left) (after .write-row .ensures)
 
 pub segv-spec : {M : Type 1} → statement M
 segv-spec =
     tie.close
     (tie.spec
-    table-requires
-    slice-aggregate-row-with
-    row-with-requires
+    sub-places
+    add-places
+    cast-places
+    family-of-requires
+    returns
+    family-of-requires-2
+    returns-2
+    sub-write-row
+    add-write-row
+    cast-write-row
+    write-row-requires
     same-length
     same-length-2
     same-length-3
     same-length-4
     same-length-5
-    returns
-    slice-aggregate-row-with-2
-    row-with-requires-2
-    same-length-6
-    same-length-7
-    same-length-8
-    same-length-9
-    same-length-10
-    returns-2)
+    returns-3)

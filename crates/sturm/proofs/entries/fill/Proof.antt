@@ -1,83 +1,40 @@
--- `sturm::entries::fill` meets its contract. The invariant: the first i entries are filled. Assumes nothing.
-use Prim.Native.Nat.{_≤_, _-_}
-use mathlib.Core.Path.{_≡_}
+-- `sturm::entries::fill` meets its contract: the family's factors are lent where they are asked for. Assumes nothing.
 use native.Mathlib.Omega.{arith}
-use native.Mathlib.Numerals.{add-one}
-use Rattle.sturm.specs.Entries.{firstEntries, entryD, entryE}
 use borrow.Author.Needs.{needs}
 use Rattle.sturm.proofs.entries.fill.Statement.{statement}
 use Rattle.sturm.proofs.entries.fill.Tie as tie
 
-abbrev Inv-loop : tie.InvT-loop
-Inv-loop table d₀ e₀ m parity cs entries i₀ d e i =
-    (i ≤ entries)
-    × (d ≡ firstEntries (λ k. entryD m k cs) parity i)
-    × (e ≡ firstEntries (λ k. entryE m k cs) parity i)
+family-block-requires : tie.Need-family-block-requires
+family-block-requires c κs = search needs
 
-abbrev μ-loop : tie.MeasureT-loop
-μ-loop table d₀ e₀ m parity cs entries i₀ d e i = entries - i
+slice-aggregate-fill-with : tie.Need-slice-aggregate-fill-with
+slice-aggregate-fill-with c = search needs
 
-loop-holds : tie.Need-loop-holds Inv-loop μ-loop
-unfolding firstEntries
-loop-holds c = (omega arith, c .before .pre .1 .0, c .before .pre .1 .1)
+fill-with-requires : tie.Need-fill-with-requires
+fill-with-requires c κs = search needs
 
-cast-at : tie.Need-cast-at Inv-loop μ-loop
-cast-at c = search needs
+returns : tie.Need-returns
+returns c = search needs
 
-mul-entry-d : tie.Need-mul-entry-d Inv-loop μ-loop
-mul-entry-d c = search needs
+slice-aggregate-fill-with-2 : tie.Need-slice-aggregate-fill-with-2
+slice-aggregate-fill-with-2 c = search needs
 
-add-entry-d : tie.Need-add-entry-d Inv-loop μ-loop
-add-entry-d c = search needs
+fill-with-requires-2 : tie.Need-fill-with-requires-2
+fill-with-requires-2 c κs =
+    let pre = c .before .before .before .before .pre in
+    ((pre .0 .0, pre .0 .1, pre .0 .2, λ small. absurd (omega arith)), pre .1)
 
-entry-d-requires : tie.Need-entry-d-requires Inv-loop μ-loop
-entry-d-requires c κs = search needs
-
-mul-d : tie.Need-mul-d Inv-loop μ-loop
-mul-d c = search needs
-
-element-write-d : tie.Need-element-write-d Inv-loop μ-loop
-element-write-d c = search needs
-
-entry-e-requires : tie.Need-entry-e-requires Inv-loop μ-loop
-entry-e-requires c κs = search needs
-
-mul-e : tie.Need-mul-e Inv-loop μ-loop
-mul-e c = search needs
-
-element-write-e : tie.Need-element-write-e Inv-loop μ-loop
-element-write-e c = search needs
-
-add-i : tie.Need-add-i Inv-loop μ-loop
-add-i c = search needs
-
-loop-less : tie.Need-loop-less Inv-loop μ-loop
-loop-less c = search needs
-
-loop-again : tie.Need-loop-again Inv-loop μ-loop
-unfolding firstEntries
-loop-again c = let l = c .before .before .before .loop in (omega arith, rw (add-one, l .inv .1, c .before .entry-d .ensures), rw (add-one, l .inv .2, c .entry-e .ensures))
-
-returns : tie.Need-returns Inv-loop μ-loop
-returns c = let h : c .before .loop .i ≡ c .before .before .before .args .entries = omega arith in (rw (← h) (c .before .loop .inv .1), rw (← h) (c .before .loop .inv .2))
+returns-2 : tie.Need-returns-2
+returns-2 c = search needs
 
 pub fill-spec : {M : Type 1} → statement M
 fill-spec =
     tie.close
     (tie.spec
-    Inv-loop
-    μ-loop
-    loop-holds
-    cast-at
-    mul-entry-d
-    add-entry-d
-    entry-d-requires
-    mul-d
-    element-write-d
-    entry-e-requires
-    mul-e
-    element-write-e
-    add-i
-    loop-less
-    loop-again
-    returns)
+    family-block-requires
+    slice-aggregate-fill-with
+    fill-with-requires
+    returns
+    slice-aggregate-fill-with-2
+    fill-with-requires-2
+    returns-2)
