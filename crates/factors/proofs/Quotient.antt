@@ -74,6 +74,6 @@ pub table-is : factorTable ≡ quotientTable
 unfolding factorTable quotientTable
 table-is = rw (order-is 0 (omega arith), order-is 1 (omega arith), order-is 2 (omega arith), order-is 3 (omega arith))
 
--- a family's part of the table, which is known by evaluation at numbers
-pub block-is : (m parity M P : ℕ) (r part : List ℕ) → m ≡ M → parity ≡ P → M + (2 * (0 + 200) + P) < 4096 → r ≡ part → part ≡ quotientsFrom M P 0 200 → r ≡ bitsFrom m parity 0 200
-block-is m parity M P r part e h l a b = a ∙ b ∙ rw (e, h, from-quotients M P 0 200 l)
+-- a family's part of the table
+pub block-is : (m parity : ℕ) (r part : List ℕ) → m + (2 * (0 + 200) + parity) < 4096 → r ≡ part → part ≡ quotientsFrom m parity 0 200 → r ≡ bitsFrom m parity 0 200
+block-is m parity r part l a b = a ∙ b ∙ rw (from-quotients m parity 0 200 l)

@@ -1,6 +1,8 @@
-// The part of the table that a family reads.
+// The parts of the table that families read: 200 factors for each order and parity. The compiler makes a
+// store of each number wherever a constant array is used, but leaves out those that it sees are not read.
+// So each family has a function of its own, which names its part by a number.
 ghost use mathlib.Core.Path.{_≡_};
-ghost use Prim.Native.Nat.{_+_, _<_, _≤_};
+ghost use Prim.Native.Nat.{_+_, _≤_};
 ghost use lib.ListN.{length, take, drop};
 ghost use Rattle.factors.specs.Factors.{bitsFrom};
 use super::factor_table::FACTORS;
@@ -21,32 +23,50 @@ fn part(table: &[u64; 1600], from: usize) -> Block
     out
 }
 
-// The first 200 factors of a family. The compiler makes a store of each number wherever a constant array
-// is used, but leaves out those that it sees are not read. So each family names its own part.
-pub fn family_block(m: u32, parity: u32) -> Block
-    requires { ⌜ (m < 4) × (parity < 2) ⌝ }
-    ensures { λ r. ⌜ r ≡ bitsFrom m parity 0 200 ⌝ }
+pub fn even_0() -> Block
+    ensures { λ r. ⌜ r ≡ bitsFrom 0 0 0 200 ⌝ }
 {
-    if parity == 0 {
-        if m == 0 {
-            return part(&FACTORS, 0);
-        }
-        if m == 1 {
-            return part(&FACTORS, 400);
-        }
-        if m == 2 {
-            return part(&FACTORS, 800);
-        }
-        return part(&FACTORS, 1200);
-    }
-    if m == 0 {
-        return part(&FACTORS, 200);
-    }
-    if m == 1 {
-        return part(&FACTORS, 600);
-    }
-    if m == 2 {
-        return part(&FACTORS, 1000);
-    }
+    part(&FACTORS, 0)
+}
+
+pub fn odd_0() -> Block
+    ensures { λ r. ⌜ r ≡ bitsFrom 0 1 0 200 ⌝ }
+{
+    part(&FACTORS, 200)
+}
+
+pub fn even_1() -> Block
+    ensures { λ r. ⌜ r ≡ bitsFrom 1 0 0 200 ⌝ }
+{
+    part(&FACTORS, 400)
+}
+
+pub fn odd_1() -> Block
+    ensures { λ r. ⌜ r ≡ bitsFrom 1 1 0 200 ⌝ }
+{
+    part(&FACTORS, 600)
+}
+
+pub fn even_2() -> Block
+    ensures { λ r. ⌜ r ≡ bitsFrom 2 0 0 200 ⌝ }
+{
+    part(&FACTORS, 800)
+}
+
+pub fn odd_2() -> Block
+    ensures { λ r. ⌜ r ≡ bitsFrom 2 1 0 200 ⌝ }
+{
+    part(&FACTORS, 1000)
+}
+
+pub fn even_3() -> Block
+    ensures { λ r. ⌜ r ≡ bitsFrom 3 0 0 200 ⌝ }
+{
+    part(&FACTORS, 1200)
+}
+
+pub fn odd_3() -> Block
+    ensures { λ r. ⌜ r ≡ bitsFrom 3 1 0 200 ⌝ }
+{
     part(&FACTORS, 1400)
 }

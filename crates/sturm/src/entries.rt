@@ -85,8 +85,44 @@ pub fn fill(d: &mut [f64; 300], e: &mut [f64; 300], m: u32, parity: u32, cs: f64
     ensures { λ _. ⌜ now (d .exit) ≡ diagonal m parity cs entries ⌝ }
     ensures { λ _. ⌜ now (e .exit) ≡ offDiagonal m parity cs entries ⌝ }
 {
-    if m < 4 {
-        let block = factors::family_block(m, parity);
+    let number = 2 * m + parity;
+    if number < 1 {
+        let block = factors::even_0();
+        fill_with(&block, d, e, m, parity, cs, entries);
+        return;
+    }
+    if number < 2 {
+        let block = factors::odd_0();
+        fill_with(&block, d, e, m, parity, cs, entries);
+        return;
+    }
+    if number < 3 {
+        let block = factors::even_1();
+        fill_with(&block, d, e, m, parity, cs, entries);
+        return;
+    }
+    if number < 4 {
+        let block = factors::odd_1();
+        fill_with(&block, d, e, m, parity, cs, entries);
+        return;
+    }
+    if number < 5 {
+        let block = factors::even_2();
+        fill_with(&block, d, e, m, parity, cs, entries);
+        return;
+    }
+    if number < 6 {
+        let block = factors::odd_2();
+        fill_with(&block, d, e, m, parity, cs, entries);
+        return;
+    }
+    if number < 7 {
+        let block = factors::even_3();
+        fill_with(&block, d, e, m, parity, cs, entries);
+        return;
+    }
+    if number < 8 {
+        let block = factors::odd_3();
         fill_with(&block, d, e, m, parity, cs, entries);
         return;
     }
