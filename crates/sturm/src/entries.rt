@@ -78,7 +78,8 @@ fn fill_with(
     }
 }
 
-// The same. What the entries are does not depend on where a's factors come from.
+// The same, asking for no factors. Each family that the table has takes its own; what the entries are
+// does not depend on where the factors come from.
 pub fn fill(d: &mut [f64; 300], e: &mut [f64; 300], m: u32, parity: u32, cs: f64, entries: u32)
     requires { ⌜ (m < 1000) × (parity < 2) × (entries ≤ 300) ⌝ }
     requires { ⌜ (now d ≡ blankEntries) × (now e ≡ blankEntries) ⌝ }
