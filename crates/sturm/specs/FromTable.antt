@@ -23,5 +23,6 @@ unfoldable pub fromTable : ℕ → ℕ → Float → ℕ → List Float
 fromTable m parity cs zero = blankEntries
 fromTable m parity cs (suc i) = set (fromTable m parity cs i) i (entryFromTable m parity cs i)
 
+-- They are the roots of the definition, for every order, parity and number of entries.
 abbrev pub SameRoots : Type 0
 SameRoots = (m parity : ℕ) (cs : Float) (n : ℕ) → parity < 2 → fromTable m parity cs n ≡ offDiagonal m parity cs n
