@@ -11,7 +11,7 @@ use super::sums::Sum;
 use expansion::sums::Places;
 
 // The angular function and its derivative at one argument.
-#[derive(Drop)]
+#[derive(Clone, Copy)]
 pub struct Pair {
     pub value: f64,
     pub derivative: f64,
@@ -69,7 +69,7 @@ fn derivative_inside(
 }
 
 // A pair from sums up to nm2, and whether these have ended.
-#[derive(Drop)]
+#[derive(Clone, Copy)]
 struct Stage {
     pair: Pair,
     ended: bool,

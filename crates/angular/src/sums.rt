@@ -14,7 +14,7 @@ fn negligible(k: u32, r: f64, su: f64) -> bool
 }
 
 // A sum, and whether it has ended: else it may go on past its last term.
-#[derive(Drop)]
+#[derive(Clone, Copy)]
 pub struct Sum {
     pub su: f64,
     pub ended: bool,

@@ -18,8 +18,8 @@ use Rattle.circle.proofs.Tiny.{step_state}
 use Rattle.arctangents.proofs.Moved.{cosine_moved, sine_moved}
 
 -- ---- two combinations that are small, and d is not
-too_far_lem : (d x y a b : ℕ) → 0 < a * a + b * b → d * b + x * a ≤ y * a + 2 ^ 58 * (a + b) → d * a + y * b ≤ x * b + 2 ^ 14 * (a + b) → 2 ^ 60 ≤ d → ⊥
-too_far_lem d x y a b pos h k l =
+too_far : (d x y a b : ℕ) → 0 < a * a + b * b → d * b + x * a ≤ y * a + 2 ^ 58 * (a + b) → d * a + y * b ≤ x * b + 2 ^ 14 * (a + b) → 2 ^ 60 ≤ d → ⊥
+too_far d x y a b pos h k l =
     end (d * (a * a + b * b)) (a * a + b * b) ((a + b) * b) ((a + b) * a) pos (mul-le-mul_right (a * a + b * b) l) whole
     (le_trans (le_of_eq (mul-add d (a * a) (b * b))) (sums (d * (a * a)) (d * (b * b)) (x * (a * b)) (y * (a * b)) ((a + b) * b) ((a + b) * a) first second))
   where
@@ -95,9 +95,9 @@ module _ (cp cm sp sm cp' cm' sp' sm' a b : ℕ) (b0 : 0 < b)
   turn x y z w k h = omega arith
 
   pub impossible : (2 ^ 60 + cm ≤ cp) ⊎ (2 ^ 60 + sm ≤ sp) → ⊥
-  impossible (inl l) = too_far_lem (cp - cm) sp sm a b positive (take (cp - cm) cp cm b (sp * a) (sm * a) (2 ^ 58 * (a + b)) (rest cp cm l) (turn (sp * a) (cp * b) (sm * a) (cm * b) (2 ^ 58 * (a + b)) small)) (take (cp - cm) cp cm a (sm * b) (sp * b) (2 ^ 14 * (a + b)) (rest cp cm l) na) (big cp cm l)
+  impossible (inl l) = too_far (cp - cm) sp sm a b positive (take (cp - cm) cp cm b (sp * a) (sm * a) (2 ^ 58 * (a + b)) (rest cp cm l) (turn (sp * a) (cp * b) (sm * a) (cm * b) (2 ^ 58 * (a + b)) small)) (take (cp - cm) cp cm a (sm * b) (sp * b) (2 ^ 14 * (a + b)) (rest cp cm l) na) (big cp cm l)
   impossible (inr l) =
-      too_far_lem (sp - sm) cp cm b a (subst (λ (z : ℕ). 0 < z) (add_comm (a * a) (b * b)) positive)
+      too_far (sp - sm) cp cm b a (subst (λ (z : ℕ). 0 < z) (add_comm (a * a) (b * b)) positive)
       (subst (λ (z : ℕ). (sp - sm) * a + cp * b ≤ cm * b + 2 ^ 58 * z) (add_comm a b) (take (sp - sm) sp sm a (cp * b) (cm * b) (2 ^ 58 * (a + b)) (rest sp sm l) small))
       (subst (λ (z : ℕ). (sp - sm) * b + cm * a ≤ cp * a + 2 ^ 14 * z) (add_comm a b) (take (sp - sm) sp sm b (cm * a) (cp * a) (2 ^ 14 * (a + b)) (rest sp sm l) nb))
       (big sp sm l)

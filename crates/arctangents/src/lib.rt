@@ -1,6 +1,8 @@
 // The arctangent of a double: a guess in doubles, to the last bits, with no proof of how near it is,
 // and a test in whole numbers that the arctangent lies within 2^-40 of it. sin t - x * cos t tells on
 // which side of the arctangent of x a t from 0 to 2 lies.
+#![tactic(auto)]
+
 ghost use Rattle.std.specs.Prelude.{◌≡◌, false, true, ◌+◌, ◌*◌, ◌^◌, ◌≤◌, ◌<◌, T, pos};
 ghost use Rattle.std.specs.Float.Ieee as Ieee;
 ghost use Rattle.std.specs.Float.{fin, inf};
@@ -247,7 +249,7 @@ fn guess(x: f64) -> f64
 }
 
 // Bounds of an arctangent, in units of 2^-58.
-#[derive(Drop)]
+#[derive(Clone, Copy)]
 struct Bracket {
     low: u64,
     up: u64,

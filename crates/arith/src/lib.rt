@@ -1,6 +1,8 @@
 // The arithmetic beneath the modes. Every function here is total and equals its definition in
 // specs/, but for `scale`, which takes apart the bits of a finite double above zero; the crates above
 // know it by these contracts only.
+#![tactic(auto)]
+
 mod choice;
 mod pattern;
 mod powers;

@@ -61,7 +61,7 @@ fn nearest_root(n: u64) -> u64
 }
 
 // The number m * 2^(e - 2148), with an m of 53 binary digits.
-#[derive(Drop)]
+#[derive(Clone, Copy)]
 pub struct Scaled {
     pub m: u64,
     pub e: u64,

@@ -1,4 +1,6 @@
 // The arithmetic as C and Rust callers link it, for the differential test and the benchmark.
+#![tactic(auto)]
+
 ghost use Rattle.std.specs.Prelude.{◌≡◌};
 ghost use Rattle.arith.specs.Double.{bits, bits_of};
 ghost use Rattle.arith.specs.Root.{sqrt};

@@ -3,7 +3,7 @@ ghost use Rattle.std.specs.Prelude.{◌≡◌, ◌≤◌};
 ghost use Rattle.bessel.specs.Msta2 as Msta2;
 
 // What is searched for, and from which order on.
-#[derive(Drop)]
+#[derive(Clone, Copy)]
 struct Search {
     obj: f64,
     n0: u32,

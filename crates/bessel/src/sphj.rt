@@ -21,7 +21,7 @@ fn tiny(x: f64) -> bool
 
 // The highest order that is computed, and the one from which backward recurrence starts: 0 where it was
 // not found.
-#[derive(Drop)]
+#[derive(Clone, Copy)]
 pub struct Orders {
     pub nm: u32,
     pub from: u32,
@@ -52,7 +52,7 @@ pub fn find_orders(x: f64, n: u32) -> Orders
 }
 
 // The functions of order 0 and 1, and the derivative of the first.
-#[derive(Drop)]
+#[derive(Clone, Copy)]
 pub(crate) struct Lowest {
     pub sa: f64,
     pub sb: f64,
@@ -73,7 +73,7 @@ fn lowest_orders(x: f64) -> Lowest
 }
 
 // The last two numbers of the recurrence, which belong to order 1 and 0.
-#[derive(Drop)]
+#[derive(Clone, Copy)]
 struct Last {
     f0: f64,
     f1: f64,

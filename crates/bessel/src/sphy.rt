@@ -39,7 +39,7 @@ fn lowest_orders(x: f64) -> Lowest
 }
 
 // The highest order that counts as computed, and whether all were reached.
-#[derive(Drop)]
+#[derive(Clone, Copy)]
 struct Reached {
     nm: u32,
     whole: bool,

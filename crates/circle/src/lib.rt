@@ -1,5 +1,7 @@
 // The cosine and the sine together, in units of 2^-63: by their series at a fraction of the angle,
 // which is then doubled. c² - s² and 2cs need no π and no reduction.
+#![tactic(auto)]
+
 pub mod fixed;
 
 ghost use Rattle.std.specs.Prelude.{◌≡◌, ◌+◌, ◌*◌, ◌^◌, ◌≤◌, ◌<◌};
@@ -8,7 +10,7 @@ ghost use Rattle.circle.specs.Inside.Circle.{IsCosineSum, IsDoubled, IsFirst, Is
 ghost use Rattle.circle.specs.Inside.CircleValues as CircleValues;
 
 // A cosine and a sine by their sizes, each with its sign: 1 where it is negative.
-#[derive(Drop)]
+#[derive(Clone, Copy)]
 pub struct Pair {
     pub c: u64,
     pub cn: u64,
@@ -70,7 +72,7 @@ fn sine_sum(q: u64) -> u64
 }
 
 // A cosine and a sine that are not negative.
-#[derive(Drop)]
+#[derive(Clone, Copy)]
 struct Initial {
     c: u64,
     s: u64,

@@ -2,6 +2,8 @@
 // another, each after its length in two bytes, little-endian. Before a stream's lines comes a line
 // `S` with its number. Each stream arrives byte by byte, so that every record is seen cut at every
 // byte. `tests/replay/run` writes the streams and the oracle's lines.
+#![tactic(auto)]
+
 ghost use Rattle.std.specs.Prelude.{◌≡◌, ◌+◌, ◌<◌, ◌≤◌, length};
 ghost use Rattle.stream.specs.Inside.Calls.{longest};
 

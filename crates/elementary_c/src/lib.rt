@@ -1,5 +1,7 @@
 // The elementary functions as C and Rust callers link them: for the differential tests, whose oracle
 // calls these in place of its own, and for the benchmark.
+#![tactic(auto)]
+
 ghost use Rattle.std.specs.Prelude.{◌≡◌};
 ghost use Rattle.sines.specs.Functions as Sines;
 ghost use Rattle.sines.specs.Sine.{Sine, Cosine};

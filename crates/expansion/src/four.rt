@@ -10,7 +10,7 @@ ghost use Rattle.expansion.specs.Inside.Four as Four;
 use super::sckb::Partial;
 
 // A product for each of the coefficients k to k + 3.
-#[derive(Drop)]
+#[derive(Clone, Copy)]
 struct Products {
     a: f64,
     b: f64,
@@ -84,14 +84,14 @@ fn first_factors(m: u32, ip: u32, reg: f64, k: u32) -> Products
 }
 
 // A term's factor, and the sum up to the term.
-#[derive(Drop)]
+#[derive(Clone, Copy)]
 pub struct Term {
     pub r: f64,
     pub sum: f64,
 }
 
 // Of each of the coefficients k to k + 3 a term.
-#[derive(Drop)]
+#[derive(Clone, Copy)]
 pub struct Terms {
     pub a: Term,
     pub b: Term,
@@ -150,7 +150,7 @@ fn one_settled(t: Terms, u: Terms) -> bool
 }
 
 // The terms that each of the four has, where the first of them has settled or run out of terms.
-#[derive(Drop)]
+#[derive(Clone, Copy)]
 struct Reached {
     // The next term of coefficient k; of k + 1 it is i + 1, and so on.
     i: u32,
@@ -203,7 +203,7 @@ fn concluded(
 }
 
 // The sums of the coefficients k to k + 3.
-#[derive(Drop)]
+#[derive(Clone, Copy)]
 pub struct FourSums {
     pub a: Partial,
     pub b: Partial,

@@ -1,5 +1,7 @@
 // Expansion coefficients of spheroidal modes: the source's `sdmn` and `sckb`. Both kinds and both
 // parities go through the same functions: the kind is the sign of cs, and the parity is a number.
+#![tactic(auto)]
+
 mod four;
 pub mod products;
 pub mod sckb;

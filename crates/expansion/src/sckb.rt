@@ -10,7 +10,7 @@ ghost use Rattle.expansion.specs.Inside.Carried.{Stands, StandsFor};
 use super::sums::Places;
 
 // A sum, and the sum remembered before it.
-#[derive(Drop)]
+#[derive(Clone, Copy)]
 pub struct Partial {
     pub sum: f64,
     pub sw: f64,
@@ -103,7 +103,7 @@ pub fn regulator(m: u32, nm: u32) -> f64
 }
 
 // What goes from coefficient to coefficient: k is the next one's number, r1 is reg times (m + k)!.
-#[derive(Drop)]
+#[derive(Clone, Copy)]
 pub struct Carried {
     pub k: u32,
     pub fac: f64,

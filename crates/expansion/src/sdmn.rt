@@ -8,7 +8,7 @@ ghost use Rattle.expansion.specs.Sdmn as Sdmn;
 use super::sums::Places;
 
 // The recurrence by which the coefficients of one parity are formed.
-#[derive(Drop)]
+#[derive(Clone, Copy)]
 pub struct Recurrence {
     pub m: u32,
     // The parity of n - m.
@@ -101,7 +101,7 @@ fn exceeds(f: f64, x: f64) -> bool
 }
 
 // Where the downward pass ended: the joint, or 0 where it came through, and the coefficient there.
-#[derive(Drop)]
+#[derive(Clone, Copy)]
 struct Joint {
     kb: u32,
     fl: f64,
@@ -190,7 +190,7 @@ fn next_factor(m: u32, ip: u32, k: u32, r1: f64) -> f64
 }
 
 // A sum and the factor of its last term.
-#[derive(Drop)]
+#[derive(Clone, Copy)]
 struct Sum {
     r1: f64,
     su1: f64,

@@ -1,5 +1,7 @@
 // Prints Card 7's table, the part of a before cs for m 0 to 3: in the table's order, 1,600 lines of 16
 // hexadecimal digits.
+#![tactic(auto)]
+
 ghost use Rattle.std.specs.Prelude.{◌*◌, ◌≤◌, length};
 ghost use Rattle.records.specs.Text.{Put};
 ghost use Rattle.factor_table.specs.Printed.{bits_lines, printed};

@@ -1,5 +1,7 @@
 // The part of the matrix entry a before cs: from a table for the orders that are asked for most, and
 // worked out elsewhere.
+#![tactic(auto)]
+
 mod block;
 mod factor_table;
 mod lookup;

@@ -6,7 +6,7 @@ ghost use Rattle.joining.specs.Qstar as Qstar;
 
 use expansion::sums::Places;
 
-#[derive(Drop)]
+#[derive(Clone, Copy)]
 pub struct Factors {
     pub qs: f64,
     pub qt: f64,

@@ -5,7 +5,7 @@ ghost use Rattle.joining.specs.Sums as Sums;
 use expansion::sckb::Partial;
 
 // How a sum over the expansion coefficients is held against the one before.
-#[derive(Drop)]
+#[derive(Clone, Copy)]
 pub enum Test {
     // By their difference over the sum: `kmn`.
     Quotient,

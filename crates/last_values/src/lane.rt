@@ -7,7 +7,7 @@ ghost use Rattle.segv.specs.Families.{opened_at};
 ghost use Rattle.segv.specs.Inside.Arrays.{ends};
 ghost use Rattle.last_values.specs.Lane.{out_of_steps, given, midpoint_of, halve, started_at, ending, next_lane, Stepped};
 
-#[derive(Drop)]
+#[derive(Clone, Copy)]
 pub struct Lane {
     // The bracket of the place that is bisected.
     pub lower: f64,

@@ -8,7 +8,7 @@ ghost use Rattle.last_values.specs.Lanes.{lane_of};
 use super::lane::Lane;
 
 // Whether a place of any row is out of steps, and else the value at n of each row.
-#[derive(Drop)]
+#[derive(Clone, Copy)]
 pub struct Values {
     pub stopped: bool,
     pub values: [f64; 4],

@@ -1,5 +1,7 @@
 // The decimal logarithm of a double: a guess in doubles, to the last bits, of which nothing is proved,
 // and bounds 3 * 2^-22 or 4 * 2^-22 apart in whole numbers, between which it must lie.
+#![tactic(auto)]
+
 ghost use Rattle.std.specs.Prelude.{false, ◌≡◌, ◌+◌, ◌-◌, ◌*◌, ◌^◌, ◌≤◌, ◌<◌, T, pos};
 ghost use Rattle.std.specs.Float.Ieee as Ieee;
 ghost use Rattle.std.specs.Float.{fin, inf};

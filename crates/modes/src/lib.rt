@@ -1,5 +1,7 @@
 // The public library. Nothing here asks anything of its caller: what document 01 does not accept is
 // refused by its number, and a refused call leaves every slice as it was.
+#![tactic(auto)]
+
 mod angular_pairs;
 mod expansions;
 mod first_kinds;

@@ -2,6 +2,8 @@
 // Standard input has two records for each value: what is asked of the library, and one that carries the
 // published value as its c, how far off an answer may be as its cv, and as its operation which of the
 // answer's numbers is meant, from 0 on. `tests/published/run` writes it.
+#![tactic(auto)]
+
 ghost use Rattle.std.specs.Prelude.{◌≤◌, length};
 
 use libc::{STDIN_FILENO, STDOUT_FILENO};

@@ -14,14 +14,14 @@ use radial_sums::rmn1::{First, Pair};
 use radial_sums::rmn2l::Large;
 
 // Both kinds.
-#[derive(Drop)]
+#[derive(Clone, Copy)]
 pub struct Radial {
     pub first: Pair,
     pub second: Pair,
 }
 
 // Both kinds, or that the orders of the first one's Bessel functions were not found.
-#[derive(Drop)]
+#[derive(Clone, Copy)]
 pub enum Kinds {
     Both(Radial),
     Neither,

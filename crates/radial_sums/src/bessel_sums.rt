@@ -58,7 +58,7 @@ fn rest(
     sum
 }
 
-#[derive(Drop)]
+#[derive(Clone, Copy)]
 pub struct Sums {
     pub value: f64,
     pub derivative: f64,

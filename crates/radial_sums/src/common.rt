@@ -7,7 +7,7 @@ use joining::sums::Test;
 
 // How many terms the sums with Bessel functions have, the factor of their first term, and the sum over
 // the expansion coefficients alone with the sum remembered.
-#[derive(Drop)]
+#[derive(Clone, Copy)]
 pub struct Common {
     pub nm: u32,
     pub r0: f64,

@@ -10,7 +10,7 @@ use super::common::Common;
 use joining::sums::Test;
 
 // Value and derivative of a radial function.
-#[derive(Drop)]
+#[derive(Clone, Copy)]
 pub struct Pair {
     pub value: f64,
     pub derivative: f64,
@@ -82,7 +82,7 @@ pub fn on_disc(df: &[f64; 200], ck: &[f64; 200], m: u32, n: u32, c: f64) -> Pair
 }
 
 // The first kind, or that the orders of its Bessel functions were not found.
-#[derive(Drop)]
+#[derive(Clone, Copy)]
 pub enum First {
     Known(Pair),
     NoOrder,

@@ -10,7 +10,7 @@ use super::rmn1::Pair;
 use joining::sums::Test;
 
 // A sum with the sum remembered, by how much its last term changed it, and the order of that term.
-#[derive(Drop)]
+#[derive(Clone, Copy)]
 struct Reached {
     sum: f64,
     sw: f64,
@@ -75,7 +75,7 @@ fn lost(sum: f64, eps: f64) -> bool
 }
 
 // The second kind, or that too many digits were lost or too few orders known.
-#[derive(Drop)]
+#[derive(Clone, Copy)]
 pub enum Large {
     Kept(Pair),
     Lost,

@@ -2,12 +2,14 @@
 // a client has sent is answered before more is waited for. What the lines are is proved in `stream`;
 // here is only the reading and writing. The two loops follow `stream/specs/Readings.antt`, whose
 // theorem says that all lines together are the stream's.
+#![tactic(auto)]
+
 ghost use Rattle.std.specs.Prelude.{◌≡◌, true, ◌+◌, ◌-◌, ◌<◌, ◌≤◌, length, take, drop};
 ghost use Rattle.stream.specs.Inside.Calls.{longest};
 ghost use Rattle.reading.specs.Loop.{Answers, Keeps, Goes, Ends};
 
 // How far the bytes that are there were answered.
-#[derive(Drop)]
+#[derive(Clone, Copy)]
 struct Arrived {
     // Where the record starts that is not whole yet.
     at: usize,
@@ -20,7 +22,7 @@ struct Arrived {
 }
 
 // How far a stream has come after a reading.
-#[derive(Drop)]
+#[derive(Clone, Copy)]
 pub struct Reading {
     // How many bytes the reading got: 0 where the input has ended.
     pub got: usize,

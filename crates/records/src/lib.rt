@@ -1,5 +1,7 @@
 // The bytes that the record program reads and writes: a record's bytes to a struct, and a line's
 // text into a buffer. Reading is total; writing asks its caller for room.
+#![tactic(auto)]
+
 mod line;
 mod record;
 mod text;

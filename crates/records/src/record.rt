@@ -9,7 +9,7 @@ const WITHOUT_ALLOWANCE: usize = 31;
 pub const LONGEST: usize = 35;
 
 // The fields of a record, without its mark.
-#[derive(Drop)]
+#[derive(Clone, Copy)]
 pub struct Record {
     pub operation: u8,
     pub m: u16,
@@ -21,7 +21,7 @@ pub struct Record {
 }
 
 // What the input has from a place on.
-#[derive(Drop)]
+#[derive(Clone, Copy)]
 pub enum Next {
     // A whole record, and how many bytes it has.
     Whole(Record, usize),

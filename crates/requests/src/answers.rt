@@ -3,7 +3,7 @@ ghost use Rattle.std.specs.Prelude.{◌≡◌, ℕ};
 ghost use Rattle.requests.specs.Answers.{given};
 
 // To a call that fills slices.
-#[derive(Drop)]
+#[derive(Clone, Copy)]
 pub enum SliceAnswer {
     // The slices hold what was asked for.
     Filled,
@@ -31,7 +31,7 @@ pub fn slice_number(answer: SliceAnswer) -> u8
 }
 
 // To a call for one mode.
-#[derive(Drop)]
+#[derive(Clone, Copy)]
 pub enum Answer {
     // A value and its derivative.
     Pair(f64, f64),

@@ -3,14 +3,14 @@ ghost use Rattle.std.specs.Prelude.{◌≡◌, ◌-◌, ◌<◌, ◌≤◌};
 ghost use Rattle.expansion.specs.Terms.{h_of, terms_of};
 ghost use Rattle.requests.specs.Refusals as Refusals;
 
-#[derive(Drop)]
+#[derive(Clone, Copy)]
 pub enum Kind {
     Prolate,
     Oblate,
 }
 
 // The order m, the degree n and the size parameter c.
-#[derive(Drop)]
+#[derive(Clone, Copy)]
 pub struct Mode {
     pub m: u16,
     pub n: u16,
@@ -165,7 +165,7 @@ pub fn entries(mode: Mode) -> u32
 }
 
 // Whether x is not zero, and 2N + m is above 251 or c * x above 200.
-pub fn too_far_lem(mode: Mode, x: f64) -> bool
+pub fn too_far(mode: Mode, x: f64) -> bool
     requires { Refusals.mode_refusal mode ≡ 0 }
     ensures { result ≡ Refusals.too_far mode x }
 {

@@ -4,7 +4,7 @@ ghost use Rattle.requests.specs.Operations.{operation_of};
 
 use super::checking::Kind;
 
-#[derive(Drop)]
+#[derive(Clone, Copy)]
 pub enum Operation {
     Row(Kind),
     Angular(Kind),

@@ -1,5 +1,7 @@
 // The ported routines as Rust callers link them, for the differential test and the benchmark. What
 // buyers link is `spheroidal_c`.
+#![tactic(auto)]
+
 ghost use Rattle.std.specs.Prelude.{◌≡◌, cond, eqb, ◌<◌, ◌≤◌};
 ghost use Rattle.sturm.specs.Entries.{diagonal, off_diagonal};
 ghost use Rattle.expansion.specs.Terms.{Usable};

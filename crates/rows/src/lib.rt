@@ -1,4 +1,6 @@
 // Rows of characteristic values.
+#![tactic(auto)]
+
 ghost use Rattle.std.specs.Prelude.{◌≡◌, ◌-◌, ◌<◌, ◌≤◌, length, replicate};
 ghost use Rattle.segv.specs.Row.{slices, written_row, answer};
 ghost use Rattle.requests.specs.Refusals.{row_refusal};

@@ -7,7 +7,7 @@ ghost use Rattle.sturm.specs.Pivots.{negative_pivots};
 ghost use Rattle.sturm.specs.Inside.SevenShifts.{counts_at};
 
 // A characteristic value with its bracket and its step number.
-#[derive(Drop)]
+#[derive(Clone, Copy)]
 pub struct Bracket {
     pub value: f64,
     pub lower: f64,
@@ -18,7 +18,7 @@ pub struct Bracket {
 }
 
 // What a bisection comes to.
-#[derive(Drop)]
+#[derive(Clone, Copy)]
 pub enum Search {
     Converged(Bracket),
     OutOfSteps,

@@ -46,7 +46,7 @@ pub fn opened(uppers: &[f64; 100], lowers: &[f64; 100], p: usize, places: usize)
 }
 
 // The brackets of a parity's places, or that one of them was out of steps.
-#[derive(Drop)]
+#[derive(Clone, Copy)]
 pub struct Family {
     pub stopped: bool,
     pub brackets: [Bracket; 100],

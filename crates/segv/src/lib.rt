@@ -1,6 +1,8 @@
 // Characteristic values of spheroidal modes by bisection: the source's `segv`, over the matrix of
 // crate `sturm`. Both parities and both kinds go through the same functions: the parity is a number
 // and the kind is the sign of cs.
+#![tactic(auto)]
+
 mod bisection;
 mod families;
 mod row;

@@ -1,5 +1,7 @@
 // Sheets: the angular pair of one mode for several c at several x, each c with the characteristic value
 // of its own row. Nothing here asks anything of its caller.
+#![tactic(auto)]
+
 mod checking;
 mod parameters;
 mod sheets;

@@ -8,7 +8,7 @@ ghost use Rattle.sheets.specs.Inside.Parameters.{Bisected, RowsFrom, Put};
 use requests::{Kind, Mode};
 
 // A row's number, 0 for no refusal, and its value at n.
-#[derive(Drop)]
+#[derive(Clone, Copy)]
 pub struct Found {
     pub number: u8,
     pub value: f64,
@@ -42,7 +42,7 @@ fn row_for(kind: Kind, m: u16, n: u16, allowance: u32, c: f64) -> Found
 }
 
 // What the rows of `count` c came to: a row's number that is not 0, or 0 and their values at n.
-#[derive(Drop)]
+#[derive(Clone, Copy)]
 pub struct Rows {
     pub number: u8,
     pub count: usize,

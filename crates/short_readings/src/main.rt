@@ -1,6 +1,8 @@
 // A test program: the record program with the least room. Its buffer holds one record of the longer
 // kind, so that the loop of `reading` takes a reading for nearly every record, and many records lie
 // across two. `tests/replay/run` writes the records and the oracle's lines.
+#![tactic(auto)]
+
 ghost use Rattle.std.specs.Prelude.{◌≡◌, length};
 ghost use Rattle.stream.specs.Inside.Calls.{longest};
 

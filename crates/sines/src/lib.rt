@@ -1,5 +1,7 @@
 // The sine and the cosine of a double. Both are computed twice: in doubles, to the last bits, with no
 // proof of how near that is, and in whole numbers, which the first are tested by.
+#![tactic(auto)]
+
 mod small;
 
 ghost use Rattle.std.specs.Prelude.{◌≡◌, false, ◌+◌, ◌*◌, ◌^◌, ◌≤◌, ◌<◌, T, pos};
@@ -25,7 +27,7 @@ fn scaled(x: f64) -> u64
 
 // What is left of an angle after the nearest multiple of π/2, as a sum of two doubles, and how many
 // quarters of a turn that multiple is, up to whole turns.
-#[derive(Drop)]
+#[derive(Clone, Copy)]
 struct Remainder {
     quarters: u64,
     high: f64,

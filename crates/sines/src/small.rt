@@ -11,7 +11,7 @@ ghost use Rattle.sines.specs.Inside.Small.{IsSplit, IsSquare};
 ghost use Rattle.sines.specs.Inside.SmallValues as SmallValues;
 
 // The number m / 2^(63 + k).
-#[derive(Drop)]
+#[derive(Clone, Copy)]
 struct Fraction {
     m: u64,
     k: u64,

@@ -1,5 +1,7 @@
 // Reads records from standard input and writes their lines to standard output, as document 01 has
 // them, each as soon as it has arrived. `reading` has the loop, and `stream` what the lines are.
+#![tactic(auto)]
+
 use libc::{STDERR_FILENO, STDIN_FILENO, STDOUT_FILENO};
 
 // Answers standard input to its end, or to where the stream is refused.

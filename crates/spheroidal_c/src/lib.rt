@@ -1,5 +1,7 @@
 // The library as C and Rust callers link it; include/spheroidal.h declares it. Each function answers document 01's
 // refusal number, or 0, and asks nothing: a refused call leaves every place as it was.
+#![tactic(auto)]
+
 ghost use Rattle.std.specs.Prelude.{◌≡◌};
 ghost use Rattle.segv.specs.Row.{slices, answer};
 ghost use Rattle.requests.specs.declared.checking.Kind.TheVariants.{Prolate, Oblate};

@@ -7,7 +7,7 @@ use super::response;
 use records::Next;
 
 // How far a stream was answered.
-#[derive(Drop)]
+#[derive(Clone, Copy)]
 pub struct Progress {
     // Where the next record starts.
     pub at: usize,

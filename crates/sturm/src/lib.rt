@@ -1,5 +1,7 @@
 // The symmetric tridiagonal matrix of one family of spheroidal modes: its entries, its Gershgorin
 // bounds and its negative pivots at a shift. The first half of the source's `segv`.
+#![tactic(auto)]
+
 mod entries;
 mod gershgorin_bounds;
 mod pivots;

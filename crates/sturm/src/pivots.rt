@@ -10,7 +10,7 @@ ghost use Rattle.sturm.specs.Pivots.{negative_pivots};
 ghost use Rattle.sturm.specs.Inside.SevenShifts.{each, next_pivots, counts_at, no_numbers, no_flags, no_counts, count_x, NoZero, Few, counted_on};
 
 // The count at a shift.
-#[derive(Drop)]
+#[derive(Clone, Copy)]
 pub struct Count {
     // How many pivots were below zero.
     pub negative: usize,
@@ -21,7 +21,7 @@ pub struct Count {
 // A double for each of seven shifts, named as a bisection needs them: x for a midpoint, l and h for
 // those of its lower and its upper half, ll to hh for those of its quarters. Nothing here depends on
 // their order.
-#[derive(Drop)]
+#[derive(Clone, Copy)]
 pub struct Seven {
     pub x: f64,
     pub l: f64,
@@ -33,7 +33,7 @@ pub struct Seven {
 }
 
 // A number for each of them, and a yes or no.
-#[derive(Drop)]
+#[derive(Clone, Copy)]
 pub struct Numbers {
     pub x: usize,
     pub l: usize,
@@ -44,7 +44,7 @@ pub struct Numbers {
     pub hh: usize,
 }
 
-#[derive(Drop)]
+#[derive(Clone, Copy)]
 pub struct Flags {
     pub x: bool,
     pub l: bool,
@@ -57,7 +57,7 @@ pub struct Flags {
 
 // A count for each of them: the numbers together and the flags together, since the compiler keeps
 // several numbers in a register only where they lie side by side.
-#[derive(Drop)]
+#[derive(Clone, Copy)]
 pub struct Counts {
     pub negative: Numbers,
     pub substituted: Flags,

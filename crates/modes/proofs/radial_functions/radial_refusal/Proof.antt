@@ -22,10 +22,10 @@ too-far-requires : tie.Need-too-far-requires
 too-far-requires c κs = common_usable _ _ (sym c.before.before.before.radial-mode-refusal.ensures ∙ c.before.before.if1.false)
 
 returns-3 : tie.Need-returns-3
-returns-3 c = laws.radial_far _ _ _ _ c.before.before.before.before.before.radial-mode-refusal.ensures c.before.before.before.before.if1.false (sym c.before.before.before.no-parameter.ensures ∙ c.before.before.if2.false) (sym c.before.too_far_lem.ensures ∙ c.if3.true)
+returns-3 c = laws.radial_far _ _ _ _ c.before.before.before.before.before.radial-mode-refusal.ensures c.before.before.before.before.if1.false (sym c.before.before.before.no-parameter.ensures ∙ c.before.before.if2.false) (sym c.before.too_far.ensures ∙ c.if3.true)
 
 returns-4 : tie.Need-returns-4
-returns-4 c = laws.radial_none _ _ _ _ c.before.before.before.before.before.radial-mode-refusal.ensures c.before.before.before.before.if1.false (sym c.before.before.before.no-parameter.ensures ∙ c.before.before.if2.false) (sym c.before.too_far_lem.ensures ∙ c.if3.false)
+returns-4 c = laws.radial_none _ _ _ _ c.before.before.before.before.before.radial-mode-refusal.ensures c.before.before.before.before.if1.false (sym c.before.before.before.no-parameter.ensures ∙ c.before.before.if2.false) (sym c.before.too_far.ensures ∙ c.if3.false)
 
 pub radial-refusal-spec : {M : Type 1} → statement M
 radial-refusal-spec =

@@ -1,8 +1,8 @@
 -- `requests::checking::too_far` meets its contract. Each return is one case of the definition. Assumes nothing.
 use borrow.Author.Rules.{rules}
 use Rattle.requests.proofs.Laws as laws
-use Rattle.requests.proofs.checking.too_far_lem.Statement.{statement}
-use Rattle.requests.proofs.checking.too_far_lem.Tie as tie
+use Rattle.requests.proofs.checking.too_far.Statement.{statement}
+use Rattle.requests.proofs.checking.too_far.Tie as tie
 
 returns : tie.Need-returns
 returns c = laws.far_zero _ _ c.if1.true
