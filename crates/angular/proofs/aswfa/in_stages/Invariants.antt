@@ -1,0 +1,16 @@
+-- `angular::aswfa::in_stages` meets its contract. The invariant: the coefficients before the next are in place. Assumes nothing.
+use borrow.Author.Rules.{rules}
+use Prim.Native.Nat.{◌+◌, ◌-◌, ◌*◌, ◌/◌, ◌%◌, ◌≤◌}
+use mathlib.Core.Path.{◌≡◌, sym, ◌∙◌}
+use native.Mathlib.Omega.{arith}
+use Rattle.expansion.specs.Inside.Carried.{StandsFor}
+use Rattle.expansion.specs.Sckb.{sckb}
+use Rattle.expansion.proofs.First.{stands_first, stands_agrees}
+use Rattle.angular.proofs.Laws.{before_signs_same}
+use Rattle.angular.proofs.aswfa.in_stages.Given as goal
+
+abbrev pub invariant-loop-count : goal.invariant-loop-count
+invariant-loop-count l = (16 ≤ l.count) × (l.count ≤ 212) × StandsFor l.df l.m l.n l.c l.at l.ck-1
+
+abbrev pub decreases-loop-count : goal.decreases-loop-count
+decreases-loop-count l = 212 - l.count

@@ -1,0 +1,6 @@
+-- `angular::aswfa::with_signs` meets its contract. Assumes nothing.
+use borrow.Author.Rules.{rules}
+use Rattle.angular.proofs.aswfa.with_signs.Goals as goal
+
+pub returns : goal.returns
+returns c = (c.sign_at.ensures, c.sign_at-2.ensures)

@@ -1,0 +1,6 @@
+-- `arith::powers::half_power` meets its contract. Assumes nothing.
+use Rattle.std.proofs.Common.{rules}
+use Rattle.arith.proofs.powers.half_power.Goals as goal
+
+pub returns : goal.returns
+returns c = rw (c.sqrt.ensures, c.power.ensures)

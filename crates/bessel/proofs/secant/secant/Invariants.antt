@@ -1,0 +1,15 @@
+-- `bessel::secant::secant` meets its contract. The invariant: what is left to try gives what the whole gives. Assumes nothing.
+use Prim.Native.Nat.{◌-◌, ◌≤◌}
+use mathlib.Core.Path.{◌≡◌, sym, ◌∙◌}
+use native.Mathlib.Omega.{arith}
+use borrow.Author.Tests.{eq-eqb, ne_eqb, not-true, not-false}
+use Rattle.bessel.specs.Secant.{meeting, excess, secant}
+use Rattle.bessel.proofs.Laws.{one_more, none_left, not_tried, again, onward, tried_most}
+use borrow.Author.Rules.{rules}
+use Rattle.bessel.proofs.secant.secant.Given as goal
+
+abbrev pub invariant-loop-left : goal.invariant-loop-left
+invariant-loop-left l = (l.n1 ≤ 100000) × (secant l.a0 l.obj l.left l.n0 l.f0 l.n1 l.f1 ≡ secant l.a0 l.obj 20 l.first (excess l.a0 l.obj l.first) l.second (excess l.a0 l.obj l.second))
+
+abbrev pub decreases-loop-left : goal.decreases-loop-left
+decreases-loop-left l = l.left

@@ -1,0 +1,19 @@
+-- `expansion::products::rise_by` meets its contract. The invariant: the first i factors are multiplied. Assumes nothing.
+use borrow.Author.Rules.{rules}
+use Prim.Native.Nat.{◌≤◌, ◌-◌}
+use mathlib.Core.Path.{◌≡◌, refl}
+use native.Mathlib.Omega.{arith}
+use native.Mathlib.Numerals.{add-one}
+use Rattle.expansion.specs.Products.{rising_by}
+use Rattle.expansion.proofs.products.rise_by.Goals as goal
+
+pub loop-i-init : goal.loop-i-init
+unfolding rising_by
+loop-i-init c = (omega arith, refl)
+
+pub loop-i-preserved : goal.loop-i-preserved
+unfolding rising_by
+loop-i-preserved c = let l = c.loop-i in (omega arith, rw (add-one l.i, l.invariant.1))
+
+pub returns : goal.returns
+returns c = let h : c.loop-i.i ≡ c.args.n = omega arith in rw (← h) c.loop-i.invariant.1

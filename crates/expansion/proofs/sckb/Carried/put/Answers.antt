@@ -1,0 +1,12 @@
+-- `expansion::sckb::Carried::put` meets its contract. Assumes nothing.
+use borrow.Author.Rules.{rules}
+use mathlib.Core.Path.{refl, ◌∙◌}
+use native.Mathlib.Omega.{arith}
+use native.Mathlib.Nat.{add_assoc}
+use Rattle.expansion.proofs.sckb.Carried.put.Goals as goal
+
+pub next_factorial-requires : goal.next_factorial-requires
+next_factorial-requires c = (omega arith, c.requires.2)
+
+pub returns : goal.returns
+returns c = record { ck_after = rw (← c.requires.2); k_value = (refl, refl, refl, c.next_factorial.ensures ∙ rw (add_assoc c.args.m c.args.self.k 1)) }

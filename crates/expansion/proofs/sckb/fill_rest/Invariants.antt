@@ -1,0 +1,14 @@
+-- `expansion::sckb::fill_rest` meets its contract. The invariant: the coefficients before the next are in place. Assumes nothing.
+use borrow.Author.Rules.{rules}
+use Prim.Native.Nat.{◌-◌, ◌<◌, ◌≤◌}
+use native.Mathlib.Omega.{arith}
+use Prim.Native.Nat.{max}
+use Rattle.expansion.specs.Inside.Carried.{Stands}
+use Rattle.expansion.proofs.Laws.{put_on}
+use Rattle.expansion.proofs.sckb.fill_rest.Given as goal
+
+abbrev pub invariant-loop-at : goal.invariant-loop-at
+invariant-loop-at l = (l.initial.at.k ≤ l.at.k) × (l.at.k ≤ max l.initial.at.k l.count) × Stands l.df l.m l.ip l.nm l.at l.ck
+
+abbrev pub decreases-loop-at : goal.decreases-loop-at
+decreases-loop-at l = l.nm - l.at.k

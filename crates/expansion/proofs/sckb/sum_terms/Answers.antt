@@ -1,0 +1,32 @@
+-- `expansion::sckb::sum_terms` meets its contract. The invariant: what is left to add gives what the whole gives. Assumes nothing.
+use borrow.Author.Rules.{rules}
+use Prim.Native.Nat.{suc, ◌+◌, ◌-◌, ◌<◌, ◌≤◌}
+use mathlib.Core.Path.{◌≡◌, refl, sym, ◌∙◌}
+use native.Mathlib.Omega.{arith}
+use native.Mathlib.Numerals.{add-one}
+use Rattle.expansion.specs.Sckb.{terms}
+use Rattle.expansion.proofs.Laws.{terms_stop, terms_on}
+use Rattle.expansion.proofs.sckb.sum_terms.Goals as goal
+
+pub loop-i-init : goal.loop-i-init
+loop-i-init c = (omega arith, omega arith, refl)
+
+pub returns-then-settled : goal.returns-then-settled
+returns-then-settled c = let a = c.args in
+    let l = c.loop-i in
+    let h : suc a.nm - l.i ≡ suc (a.nm - l.i) = omega arith in
+    terms_stop _ a.m a.ip a.k (a.nm - l.i) l.i l.r _ l.sum-1 l.sw c.next_factor-r.ensures (sym c.settled.ensures ∙ c.if-settled.true) ∙ rw h at l.invariant.2
+
+pub loop-i-preserved : goal.loop-i-preserved
+loop-i-preserved c = let a = c.args in
+    let l = c.loop-i in
+    let h : suc a.nm - l.i ≡ suc (a.nm - l.i) = omega arith in
+    let h' : suc a.nm - (l.i + 1) ≡ a.nm - l.i = omega arith in (
+      omega arith,
+      omega arith,
+      rw (h', add-one l.i) (terms_on _ a.m a.ip a.k (a.nm - l.i) l.i l.r _ l.sum-1 l.sw c.next_factor-r.ensures (sym c.settled.ensures ∙ c.if-settled.false) ∙ rw h at l.invariant.2),
+    )
+
+pub returns : goal.returns
+unfolding terms
+returns c = let h : suc c.args.nm - c.loop-i.i ≡ 0 = omega arith in rw h at c.loop-i.invariant.2

@@ -1,0 +1,16 @@
+-- `expansion::sdmn::sum_past` meets its contract. The invariant: what is left to add gives what the whole gives. Assumes nothing.
+use borrow.Author.Rules.{rules}
+use Prim.Native.Nat.{◌≤◌, ◌-◌, ◌+◌, suc, ◌<◌}
+use mathlib.Core.Path.{◌≡◌, sym, ◌∙◌}
+use native.Mathlib.Omega.{arith}
+use native.Mathlib.Numerals.{add-one}
+use Rattle.arith.specs.Double.{#0}
+use Rattle.expansion.specs.Sdmn.{sum_past}
+use Rattle.expansion.proofs.Laws.{past_stop, past_on}
+use Rattle.expansion.proofs.sdmn.sum_past.Given as goal
+
+abbrev pub invariant-loop-k : goal.invariant-loop-k
+invariant-loop-k l = (l.kb < l.k) × (l.k ≤ suc l.nm) × (sum_past l.df l.m l.ip (suc l.nm - l.k) l.k l.r1 l.su2-1 l.sw ≡ sum_past l.df l.m l.ip (l.nm - l.kb) (l.kb + 1) l.first #0 #0)
+
+abbrev pub decreases-loop-k : goal.decreases-loop-k
+decreases-loop-k l = suc l.nm - l.k

@@ -1,0 +1,11 @@
+-- `factors::block::even_0` meets its contract: the checker computes the 200 quotients. Assumes nothing.
+use mathlib.Core.Path.{refl}
+use native.Mathlib.Omega.{arith}
+use lib.Ieee.{round, to_bits}
+use Rattle.factors.proofs.Quotient.{quotients_from, block_is}
+use borrow.Author.Rules.{rules}
+use Rattle.factors.proofs.block.even_0.Goals as goal
+
+pub returns : goal.returns
+unfolding quotients_from round to_bits
+returns c = block_is 0 0 _ _ (omega arith) c.part.ensures refl

@@ -1,0 +1,22 @@
+-- `joining::cbk::right_sides` meets its contract. The invariant: what is left to fill gives what the whole gives, and the products are kept. Assumes nothing.
+use borrow.Author.Rules.{rules}
+use Prim.Native.Nat.{◌-◌, ◌≤◌, suc, ◌+◌}
+use mathlib.Core.Path.{◌≡◌, ap, ◌∙◌}
+use native.Mathlib.Omega.{arith}
+use lib.ListN.{length, get_or-replicate, length-replicate}
+use Rattle.arith.specs.Double.{#0, at, #1}
+use Rattle.expansion.specs.Sums.{blank}
+use Rattle.joining.specs.Inside.Kept.{ones, Holds}
+use Rattle.joining.specs.Cbk.{first_index, right_sides, r1_at, next_r1}
+use native.Mathlib.Numerals.{add-one}
+use native.Mathlib.Nat.{sub-zero}
+use mathlib.Core.List.{List}
+use lib.Ieee.{Float, nan}
+use Rattle.joining.proofs.Signed.{first_is}
+use Rattle.joining.proofs.cbk.right_sides.Given as goal
+
+abbrev pub invariant-loop-k : goal.invariant-loop-k
+invariant-loop-k l = (l.k ≤ l.n2) × (length l.r1-1 ≡ 200) × Holds l.r1-1 l.m l.k (first_index l.m l.k) l.nm × (right_sides l.ck l.m l.ip l.nm l.qt (l.n2 - l.k) l.k l.sw l.bk ≡ right_sides l.ck l.m l.ip l.nm l.qt l.n2 0 #0 blank)
+
+abbrev pub decreases-loop-k : goal.decreases-loop-k
+decreases-loop-k l = l.n2 - l.k

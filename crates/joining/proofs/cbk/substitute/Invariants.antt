@@ -1,0 +1,14 @@
+-- `joining::cbk::substitute` meets its contract. The invariant: what is left to substitute gives what the whole gives. Assumes nothing.
+use borrow.Author.Rules.{rules}
+use Prim.Native.Nat.{suc, ◌-◌, ◌≤◌}
+use mathlib.Core.Path.{◌≡◌, refl}
+use native.Mathlib.Omega.{arith}
+use native.Mathlib.Numerals.{add-one}
+use Rattle.joining.specs.Cbk.{substituted}
+use Rattle.joining.proofs.cbk.substitute.Given as goal
+
+abbrev pub invariant-loop-k : goal.invariant-loop-k
+invariant-loop-k l = (l.k ≤ l.last) × (substituted l.w l.k l.bk-1 ≡ substituted l.w l.last l.initial.bk)
+
+abbrev pub decreases-loop-k : goal.decreases-loop-k
+decreases-loop-k l = l.k

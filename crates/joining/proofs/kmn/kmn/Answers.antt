@@ -1,0 +1,8 @@
+-- `joining::kmn::kmn` meets its contract. Assumes nothing.
+use borrow.Author.Rules.{rules}
+use Rattle.joining.specs.Kmn as Kmn
+use Rattle.joining.proofs.kmn.kmn.Goals as goal
+
+pub returns : goal.returns
+unfolding Kmn.kmn
+returns c = rw (c.sa0_of.ensures, c.expansion_sum-su0.ensures, c.terms-nm.ensures.value)

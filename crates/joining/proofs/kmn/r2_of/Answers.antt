@@ -1,0 +1,19 @@
+-- `joining::kmn::r2_of` meets its contract. The invariant: the first j factors are multiplied. Assumes nothing.
+use borrow.Author.Rules.{rules}
+use Prim.Native.Nat.{◌-◌, ◌≤◌}
+use mathlib.Core.Path.{◌≡◌, refl}
+use native.Mathlib.Omega.{arith}
+use native.Mathlib.Numerals.{add-one}
+use Rattle.joining.specs.Kmn.{r2_of}
+use Rattle.joining.proofs.kmn.r2_of.Goals as goal
+
+pub loop-j-init : goal.loop-j-init
+unfolding r2_of
+loop-j-init c = (omega arith, refl)
+
+pub loop-j-preserved : goal.loop-j-preserved
+unfolding r2_of
+loop-j-preserved c = let l = c.loop-j in (omega arith, rw (add-one l.j, l.invariant.1))
+
+pub returns : goal.returns
+returns c = let h : c.loop-j.j ≡ c.args.m = omega arith in rw (← h) c.loop-j.invariant.1

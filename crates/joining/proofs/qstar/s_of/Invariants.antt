@@ -1,0 +1,15 @@
+-- `joining::qstar::s_of` meets its contract. The invariant: the first l terms are added. Assumes nothing.
+use borrow.Author.Rules.{rules}
+use Prim.Native.Nat.{◌-◌, ◌≤◌}
+use mathlib.Core.Path.{◌≡◌, refl, ap}
+use native.Mathlib.Omega.{arith}
+use native.Mathlib.Numerals.{add-one}
+use Rattle.arith.specs.Double.{at}
+use Rattle.joining.specs.Qstar.{s_at}
+use Rattle.joining.proofs.qstar.s_of.Given as goal
+
+abbrev pub invariant-loop-l : goal.invariant-loop-l
+invariant-loop-l l = (l.l ≤ l.i) × (l.s-1 ≡ s_at (λ q. at l.sk q) l.ap l.i l.l)
+
+abbrev pub decreases-loop-l : goal.decreases-loop-l
+decreases-loop-l l = l.i - l.l

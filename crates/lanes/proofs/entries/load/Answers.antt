@@ -1,0 +1,33 @@
+-- `lanes::entries::load` meets its contract. The invariant: the first i places of the lane are filled, and every other index holds what it held. Assumes nothing.
+use Prim.Native.Nat.{◌+◌, ◌*◌, ◌-◌, ◌≤◌}
+use mathlib.Core.Path.{refl, ◌∙◌}
+use mathlib.Core.Bool.{false, cond}
+use native.Mathlib.Omega.{arith}
+use borrow.Author.Tests.{lt-ltb, le-ltb}
+use lib.Dec.{ltb}
+use lib.Ieee.{nan, inf}
+use Rattle.arith.specs.Double.{at}
+use Rattle.lanes.proofs.Laws.{Stored, none_stored, one_stored}
+use borrow.Author.Rules.{rules}
+use Rattle.lanes.proofs.entries.load.Goals as goal
+
+pub loop-i-init : goal.loop-i-init
+loop-i-init c = (omega arith, none_stored _ _ _ _, none_stored _ _ _ _)
+
+pub loop-i-preserved : goal.loop-i-preserved
+loop-i-preserved c =
+    let l = c.loop-i in
+    (omega arith, one_stored _ _ _ _ _ l.i _ l.invariant.1 (omega arith) (λ k less e. omega arith) c.entry_or_infinity.ensures, one_stored _ _ _ _ _ l.i _ l.invariant.2 (omega arith) (λ k less e. omega arith) refl)
+
+pub returns : goal.returns
+returns c =
+    let l = c.loop-i in
+    let pre = c.requires in record {
+      ds_len = (l.invariant.1.size ∙ pre.2, l.invariant.2.size ∙ pre.3);
+      holds = record {
+        diagonal = λ i less. l.invariant.1.done i (omega arith) ∙ rw (lt-ltb i _ less);
+        roots = λ i less. l.invariant.2.done i (omega arith);
+        past = λ i beyond less. l.invariant.1.done i (omega arith) ∙ rw (le-ltb i _ beyond);
+      };
+      by_index = λ j less other. (λ i. l.invariant.1.kept _ (λ k h e. other (omega arith)), λ i. l.invariant.2.kept _ (λ k h e. other (omega arith)));
+    }

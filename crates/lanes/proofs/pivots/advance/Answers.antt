@@ -1,0 +1,40 @@
+-- `lanes::pivots::advance` meets its contract. The invariant: the lanes before the j-th have their pivots and counts, and the others what they had. Assumes nothing.
+use Prim.Native.Nat.{ℕ, ◌+◌, ◌-◌, ◌≤◌}
+use mathlib.Core.Path.{◌≡◌, ◌∙◌}
+use mathlib.Core.Bool.{cond}
+use mathlib.Core.List.{List}
+use native.Mathlib.Omega.{arith}
+use lib.Ieee.{Float, nan, lt}
+use lib.ListN.{get_or}
+use Rattle.arith.specs.Double.{#0, at}
+use Rattle.sturm.specs.Pivots.{square, pivot}
+use Rattle.lanes.specs.Lanes.{lane_at}
+use Rattle.lanes.proofs.Laws.{Stored, none_stored, one_stored, next_kept}
+use borrow.Author.Rules.{rules}
+use Rattle.lanes.proofs.pivots.advance.Goals as goal
+use Rattle.lanes.proofs.pivots.advance.Invariants.{pivot_of}
+
+pub loop-j-init : goal.loop-j-init
+loop-j-init c = (omega arith, none_stored _ _ _ _, none_stored _ _ _ _)
+
+pub counted-requires : goal.counted-requires
+counted-requires c =
+    let l = c.loop-j in
+    rw (next_kept l.j l.invariant.2) (c.requires.by_index l.j (omega arith))
+
+pub loop-j-preserved : goal.loop-j-preserved
+loop-j-preserved c =
+    let l = c.loop-j in
+    let a = c.args in
+    let p : c.pivot-p.result ≡ pivot_of a.ds.now a.es.now a.i a.shifts.now a.s.now l.j =
+    rw (← (next_kept l.j l.invariant.1), ← c.square.ensures) c.pivot-p.ensures in (
+      omega arith,
+      one_stored _ _ _ _ _ l.j _ l.invariant.1 (omega arith) (λ k less e. omega arith) p,
+      one_stored _ _ _ _ _ l.j _ l.invariant.2 (omega arith) (λ k less e. omega arith) (rw (← p, ← (next_kept l.j l.invariant.2)) c.counted.ensures),
+    )
+
+pub returns : goal.returns
+returns c =
+    let l = c.loop-j in
+    let pre = c.requires.i_bound in
+    record { s_len = (l.invariant.1.size ∙ pre.1, l.invariant.2.size ∙ pre.2); by_index_2 = λ j less. l.invariant.1.done j (omega arith); by_index_3 = λ j less. rw (l.invariant.1.done j (omega arith)) (l.invariant.2.done j (omega arith)) }

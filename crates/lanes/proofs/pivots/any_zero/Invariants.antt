@@ -1,0 +1,17 @@
+-- `lanes::pivots::any_zero` meets its contract. The invariant: where the flag is false, no pivot before the j-th is zero. Assumes nothing.
+use Prim.Native.Nat.{ℕ, ◌-◌, ◌≤◌, ◌<◌}
+use mathlib.Core.Path.{◌≡◌}
+use mathlib.Core.Bool.{false}
+use native.Mathlib.Omega.{arith}
+use lib.Ieee.{eq}
+use Rattle.arith.specs.Double.{#0, at}
+use Rattle.arith.proofs.Flags.{neither}
+use Rattle.lanes.proofs.Laws.{one_more}
+use borrow.Author.Rules.{rules}
+use Rattle.lanes.proofs.pivots.any_zero.Given as goal
+
+abbrev pub invariant-loop-j : goal.invariant-loop-j
+invariant-loop-j l = (l.j ≤ 8) × (l.zero-1 ≡ false → (k : ℕ) → k < l.j → eq (at l.s k) #0 ≡ false)
+
+abbrev pub decreases-loop-j : goal.decreases-loop-j
+decreases-loop-j l = 8 - l.j

@@ -1,0 +1,17 @@
+-- `lanes::pivots::negative_pivots` meets its contract. The invariant: the pivot and the count of each lane are its own after i entries. Assumes nothing.
+use Prim.Native.Nat.{ℕ, min, ◌-◌, ◌≤◌, ◌<◌}
+use mathlib.Core.Path.{◌≡◌, refl}
+use native.Mathlib.Omega.{arith}
+use lib.Ieee.{nan}
+use lib.ListN.{length, get_or, get_or-replicate}
+use Rattle.arith.specs.Double.{#1, at}
+use Rattle.sturm.specs.Pivots.{negative_pivots}
+use Rattle.lanes.proofs.Laws.{Lane, lane_starts, lane_on}
+use borrow.Author.Rules.{rules}
+use Rattle.lanes.proofs.pivots.negative_pivots.Given as goal
+
+abbrev pub invariant-loop-i : goal.invariant-loop-i
+invariant-loop-i l = (l.i ≤ l.entries) × (length l.s-1 ≡ 8) × (length l.negative-1 ≡ 8) × ((j : ℕ) → j < 8 → Lane l.ds l.es j (at l.shifts j) l.i (at l.s-1 j) (get_or l.negative-1 j 0))
+
+abbrev pub decreases-loop-i : goal.decreases-loop-i
+decreases-loop-i l = l.entries - l.i

@@ -1,0 +1,6 @@
+-- `last_values::lane::started` meets its contract. Assumes nothing.
+use borrow.Author.Rules.{rules}
+use Rattle.last_values.proofs.lane.started.Goals as goal
+
+pub returns : goal.returns
+returns c = rw c.opened-start.ensures

@@ -1,0 +1,20 @@
+-- `last_values::running::midpoints` meets its contract. The invariant: the first j midpoints are in place. Assumes nothing.
+use Prim.Native.Nat.{◌-◌, ◌≤◌}
+use native.Mathlib.Omega.{arith}
+use lib.Ieee.{nan}
+use Rattle.lanes.proofs.Laws.{Stored, none_stored, one_stored}
+use Rattle.last_values.specs.Lane.{midpoint_of}
+use Rattle.last_values.specs.Lanes.{lane_of}
+use borrow.Author.Rules.{rules}
+use Rattle.last_values.proofs.running.midpoints.Goals as goal
+
+pub loop-j-init : goal.loop-j-init
+loop-j-init c = (omega arith, none_stored _ _ _ _)
+
+pub loop-j-preserved : goal.loop-j-preserved
+loop-j-preserved c =
+    let l = c.loop-j in
+    (omega arith, one_stored _ _ _ _ _ l.j _ l.invariant.1 (omega arith) (λ k less e. omega arith) c.midpoint.ensures)
+
+pub returns : goal.returns
+returns c j less = c.loop-j.invariant.1.done j (omega arith)

@@ -1,0 +1,15 @@
+-- `last_values::running::midpoints` meets its contract. The invariant: the first j midpoints are in place. Assumes nothing.
+use Prim.Native.Nat.{◌-◌, ◌≤◌}
+use native.Mathlib.Omega.{arith}
+use lib.Ieee.{nan}
+use Rattle.lanes.proofs.Laws.{Stored, none_stored, one_stored}
+use Rattle.last_values.specs.Lane.{midpoint_of}
+use Rattle.last_values.specs.Lanes.{lane_of}
+use borrow.Author.Rules.{rules}
+use Rattle.last_values.proofs.running.midpoints.Given as goal
+
+abbrev pub invariant-loop-j : goal.invariant-loop-j
+invariant-loop-j l = (l.j ≤ 8) × Stored nan (λ k. k) (λ k. midpoint_of (lane_of l.lanes k)) l.initial.out l.out l.j
+
+abbrev pub decreases-loop-j : goal.decreases-loop-j
+decreases-loop-j l = 8 - l.j

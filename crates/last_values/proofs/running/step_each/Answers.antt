@@ -1,0 +1,25 @@
+-- `last_values::running::step_each` meets its contract. The invariant: the first j lanes have made their step. Assumes nothing.
+use Prim.Native.Nat.{◌-◌, ◌≤◌}
+use native.Mathlib.Omega.{arith}
+use Rattle.last_values.proofs.Each.{Each, each_none, each_on}
+use borrow.Author.Rules.{rules}
+use Rattle.last_values.proofs.running.step_each.Goals as goal
+
+pub loop-j-init : goal.loop-j-init
+loop-j-init c = (omega arith, each_none _ _ _ _ _ _ c.requires.1)
+
+pub step-requires : goal.step-requires
+step-requires c =
+    let l = c.loop-j in
+    let pre = c.requires in
+    (pre.0, rw (l.invariant.1.lane l.j (omega arith)) (pre.2 l.j (omega arith)))
+
+pub loop-j-preserved : goal.loop-j-preserved
+loop-j-preserved c =
+    let l = c.loop-j in
+    (omega arith, each_on _ _ _ _ _ _ _ _ _ l.j l.invariant.1 (omega arith) _ _ _ c.step.ensures)
+
+pub returns : goal.returns
+returns c =
+    let e = c.loop-j.invariant.1 in
+    (λ j less. e.done j (omega arith), e.eight)

@@ -1,0 +1,20 @@
+-- `last_values::values::values_of` meets its contract. The invariant: the first q values are in place. Assumes nothing.
+use Prim.Native.Nat.{◌+◌, ◌-◌, ◌*◌, ◌≤◌}
+use mathlib.Core.Path.{refl}
+use native.Mathlib.Omega.{arith}
+use lib.Ieee.{nan}
+use Rattle.lanes.proofs.Laws.{Stored, none_stored, one_stored}
+use Rattle.last_values.specs.Lanes.{lane_of}
+use borrow.Author.Rules.{rules}
+use Rattle.last_values.proofs.values.values_of.Goals as goal
+
+pub loop-q-init : goal.loop-q-init
+loop-q-init c = (omega arith, none_stored _ _ _ _)
+
+pub loop-q-preserved : goal.loop-q-preserved
+loop-q-preserved c =
+    let l = c.loop-q in
+    (omega arith, one_stored _ _ _ _ _ l.q _ l.invariant.1 (omega arith) (λ k less e. omega arith) refl)
+
+pub returns : goal.returns
+returns c q less = c.loop-q.invariant.1.done q (omega arith)

@@ -1,0 +1,24 @@
+-- `logarithms::tested_above` meets its contract. Assumes nothing.
+use Prim.Native.Nat.{ℕ, ◌+◌, ◌^◌, ◌≤◌}
+use native.Mathlib.Omega.{arith}
+use borrow.Author.Rules.{rules}
+use Rattle.logarithms.specs.Inside.LogarithmValues.{tested_above}
+use Rattle.circle.proofs.fixed.Order.{difference_more, lies_of}
+use Rattle.logarithms.proofs.tested_above.Goals as goal
+
+order : (n : ℕ) → n + 0 ≤ n + 3 + 0
+order n = omega arith
+
+pub overflow_cast-n : goal.overflow_cast-n
+overflow_cast-n c = omega (arith, c.requires)
+
+pub overflow_cast-n-2 : goal.overflow_cast-n-2
+overflow_cast-n-2 c = omega (arith, c.requires)
+
+pub returns : goal.returns
+unfolding tested_above
+returns c =
+    let n = c.args.n in
+    let l = c.parts in
+    let u = c.parts-2 in
+    record { lies = lies_of l.result u.result c.guarded.result n 0 (n + 3) 0 (2 ^ 22) (difference_more l.result n (2 ^ 22) l.ensures.has_value) (difference_more u.result (n + 3) (2 ^ 22) u.ensures.has_value) (order n) c.guarded.ensures.fact; value = rw (c.guarded.ensures.value, l.ensures.value, u.ensures.value) }

@@ -1,0 +1,15 @@
+-- `modes::expansions::copy` meets its contract. The invariant: the first j places are copied, and those from j on are as they were. Assumes nothing.
+use borrow.Author.Rules.{rules}
+use Prim.Native.Nat.{◌-◌, ◌≤◌}
+use mathlib.Core.Path.{◌≡◌, refl}
+use native.Mathlib.Omega.{arith}
+use native.Mathlib.Numerals.{add-one}
+use lib.ListN.{length, take, drop, length-set}
+use Rattle.modes.proofs.Laws.{copied, all_copied}
+use Rattle.modes.proofs.expansions.copy.Given as goal
+
+abbrev pub invariant-loop-j : goal.invariant-loop-j
+invariant-loop-j l = (l.j ≤ 200) × (length l.out-1 ≡ length l.initial.out) × (take l.j l.out-1 ≡ take l.j l.df) × (drop l.j l.out-1 ≡ drop l.j l.initial.out)
+
+abbrev pub decreases-loop-j : goal.decreases-loop-j
+decreases-loop-j l = 200 - l.j

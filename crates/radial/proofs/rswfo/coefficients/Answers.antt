@@ -1,0 +1,6 @@
+-- `radial::rswfo::coefficients` meets its contract. Assumes nothing.
+use borrow.Author.Rules.{rules}
+use Rattle.radial.proofs.rswfo.coefficients.Goals as goal
+
+pub returns : goal.returns
+returns c = c.sdmn.ensures

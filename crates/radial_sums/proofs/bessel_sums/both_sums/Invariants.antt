@@ -1,0 +1,18 @@
+-- `radial_sums::bessel_sums::both_sums` meets its contract. The invariant: for each sum, what is left to add gives what the whole gives. Assumes nothing.
+use Prim.Native.Nat.{suc, ◌-◌, ◌≤◌}
+use mathlib.Core.Path.{◌≡◌, ◌∙◌}
+use native.Mathlib.Omega.{arith}
+use native.Mathlib.Numerals.{add-one}
+use native.Mathlib.Nat.{sub-zero}
+use Rattle.radial_sums.specs.BesselSums.{bessel_on, sum_from, bessel_sum}
+use Rattle.radial_sums.proofs.Laws.{bessel_stop, bessel_on_lem, sums_are}
+use borrow.Author.Rules.{rules}
+use Rattle.radial_sums.proofs.bessel_sums.both_sums.Given as goal
+
+abbrev pub invariant-loop-j : goal.invariant-loop-j
+invariant-loop-j l =
+    (l.j ≤ l.nm) × (sum_from l.df l.sj l.m l.ip l.half l.nm l.j l.r l.value-1 l.value0 ≡ bessel_sum l.df l.sj l.m l.ip l.half l.nm l.r0) × (sum_from l.df l.dj l.m l.ip l.half l.nm l.j l.r l.derivative-1 l.derivative0 ≡ bessel_sum l.df l.dj l.m l.ip l.half l.nm l.r0)
+
+abbrev pub decreases-loop-j : goal.decreases-loop-j
+decreases-loop-j l =
+    l.nm - l.j

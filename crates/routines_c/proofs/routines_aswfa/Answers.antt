@@ -1,0 +1,8 @@
+-- `routines_c::routines_aswfa` meets its contract. Assumes nothing.
+use borrow.Author.Rules.{rules}
+use mathlib.Core.Path.{ap}
+use Rattle.angular.specs.declared.aswfa.Pair.{Pair}
+use Rattle.routines_c.proofs.routines_aswfa.Goals as goal
+
+pub returns : goal.returns
+returns c = record { value_after = ap (λ (p : Pair). p.value) c.aswfa-p.ensures; derivative_after = ap (λ (p : Pair). p.derivative) c.aswfa-p.ensures }

@@ -1,0 +1,15 @@
+-- `rows::lessen` meets its contract. The invariant: the first j places are written. Assumes nothing.
+use Prim.Native.Nat.{◌≤◌, ◌-◌}
+use mathlib.Core.Path.{◌≡◌, refl}
+use native.Mathlib.Omega.{arith}
+use native.Mathlib.Numerals.{add-one}
+use lib.ListN.{length, length-set}
+use Rattle.rows.specs.Rows.{lessened}
+use borrow.Author.Rules.{rules}
+use Rattle.rows.proofs.lessen.Given as goal
+
+abbrev pub invariant-loop-j : goal.invariant-loop-j
+invariant-loop-j l = (l.j ≤ l.n) × (length l.out-1 ≡ length l.initial.out) × (l.out-1 ≡ lessened l.values l.gamma_squared l.j l.initial.out)
+
+abbrev pub decreases-loop-j : goal.decreases-loop-j
+decreases-loop-j l = l.n - l.j

@@ -1,0 +1,13 @@
+-- `segv::families::first_below` meets its contract. The invariant: the uppers that are left give the answer. Assumes nothing.
+use Prim.Native.Nat.{suc, ◌-◌, ◌+◌}
+use mathlib.Core.Path.{◌≡◌, refl}
+use native.Mathlib.Omega.{arith}
+use Rattle.segv.specs.Families.{first_below}
+use borrow.Author.Rules.{rules}
+use Rattle.segv.proofs.families.first_below.Given as goal
+
+abbrev pub invariant-loop-i : goal.invariant-loop-i
+invariant-loop-i l = first_below l.uppers l.x l.i (l.places - l.i) ≡ first_below l.uppers l.x l.from (l.places - l.from)
+
+abbrev pub decreases-loop-i : goal.decreases-loop-i
+decreases-loop-i l = l.places - l.i

@@ -1,0 +1,27 @@
+-- `segv::row::write_row` meets its contract. The invariant: the first j places of each slice are written. Assumes nothing.
+use Prim.Native.Nat.{◌≤◌, ◌-◌}
+use mathlib.Core.Path.{◌≡◌, refl, ap}
+use native.Mathlib.Omega.{arith}
+use native.Mathlib.Numerals.{add-one}
+use lib.ListN.{length, length-set}
+use Rattle.segv.specs.Row.{slices, written, written_row, mode_at}
+use Rattle.segv.specs.Inside.Arrays.{families}
+use borrow.Author.Rules.{rules}
+use Rattle.segv.proofs.row.write_row.Goals as goal
+
+pub loop-j-init : goal.loop-j-init
+unfolding written written_row
+loop-j-init c = (omega arith, refl, refl, refl, refl, refl, refl)
+
+pub loop-j-preserved : goal.loop-j-preserved
+unfolding written written_row
+loop-j-preserved c =
+    let l = c.loop-j in
+    let e = c.mode_at-r.ensures in
+    (omega arith, simp length-set l.invariant.1, simp length-set l.invariant.2, simp length-set l.invariant.3, simp length-set l.invariant.4, simp length-set l.invariant.5, rw (add-one, ap (λ x. x.values) l.invariant.6, ap (λ x. x.steps) l.invariant.6, ap (λ x. x.lowers) l.invariant.6, ap (λ x. x.uppers) l.invariant.6, ap (λ x. x.substituted) l.invariant.6, c.flag.ensures, e))
+
+pub returns : goal.returns
+returns c =
+    let l = c.loop-j in
+    let h : l.j ≡ c.args.n = omega arith in
+    rw h at l.invariant.6

@@ -1,0 +1,20 @@
+-- `sheets::checking::parameters_refusal` meets its contract. The invariant: no parameter before the i-th is refused. Assumes nothing.
+use Prim.Native.Nat.{ℕ, ◌-◌, ◌≤◌}
+use mathlib.Core.Path.{◌≡◌, refl, sym, ◌∙◌}
+use native.Mathlib.Omega.{arith}
+use lib.Ieee.{Float}
+use lib.ListN.{length, drop}
+use Rattle.requests.specs.Refusals.{mode_refusal}
+use Rattle.sheets.specs.Sheet.{mode_with, first_refusal}
+use Rattle.sheets.proofs.Laws as laws
+use borrow.Author.Rules.{rules}
+use Rattle.sheets.proofs.checking.parameters_refusal.Given as goal
+
+abbrev pub refusal : ℕ → ℕ → Float → ℕ
+refusal m n c = mode_refusal (mode_with m n c)
+
+abbrev pub invariant-loop-i : goal.invariant-loop-i
+invariant-loop-i l = (l.i ≤ length l.cs) × (first_refusal (refusal l.m l.n) l.cs ≡ first_refusal (refusal l.m l.n) (drop l.i l.cs))
+
+abbrev pub decreases-loop-i : goal.decreases-loop-i
+decreases-loop-i l = length l.cs - l.i

@@ -1,0 +1,15 @@
+-- `sheets::parameters::four_entries` meets its contract. The invariant: the first q are in place. Assumes nothing.
+use Prim.Native.Nat.{◌+◌, ◌-◌, ◌≤◌}
+use native.Mathlib.Omega.{arith}
+use Rattle.arith.specs.Double.{at}
+use Rattle.lanes.proofs.Laws.{Stored, none_stored, one_stored}
+use Rattle.requests.specs.Refusals.{entries_of}
+use Rattle.sheets.specs.Sheet.{mode_with}
+use borrow.Author.Rules.{rules}
+use Rattle.sheets.proofs.parameters.four_entries.Given as goal
+
+abbrev pub invariant-loop-q : goal.invariant-loop-q
+invariant-loop-q l = (l.q ≤ 4) × Stored 0 (λ k. k) (λ k. entries_of (mode_with l.m l.n (at l.cs (l.i + k)))) l.initial.out l.out l.q
+
+abbrev pub decreases-loop-q : goal.decreases-loop-q
+decreases-loop-q l = 4 - l.q

@@ -1,0 +1,22 @@
+-- `sheets::parameters::put` meets its contract. The invariant: the first q values are in place. Assumes nothing.
+use Prim.Native.Nat.{◌+◌, ◌-◌, ◌≤◌}
+use mathlib.Core.Path.{refl}
+use native.Mathlib.Omega.{arith}
+use lib.Ieee.{nan}
+use Rattle.arith.specs.Double.{at}
+use Rattle.lanes.proofs.Laws.{Stored, none_stored, one_stored}
+use borrow.Author.Rules.{rules}
+use Rattle.sheets.proofs.parameters.put.Goals as goal
+
+pub loop-q-init : goal.loop-q-init
+loop-q-init c = (omega arith, none_stored _ _ _ _)
+
+pub loop-q-preserved : goal.loop-q-preserved
+loop-q-preserved c =
+    let l = c.loop-q in
+    (omega arith, one_stored _ _ _ _ _ l.q _ l.invariant.1 (omega arith) (λ k less e. omega arith) refl)
+
+pub returns : goal.returns
+returns c =
+    let s = c.loop-q.invariant.1 in
+    record { size = s.size; new = λ q less. s.done q (omega arith); kept = λ j less. s.kept j (λ k l e. omega arith) }

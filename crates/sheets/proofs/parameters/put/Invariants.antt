@@ -1,0 +1,15 @@
+-- `sheets::parameters::put` meets its contract. The invariant: the first q values are in place. Assumes nothing.
+use Prim.Native.Nat.{◌+◌, ◌-◌, ◌≤◌}
+use mathlib.Core.Path.{refl}
+use native.Mathlib.Omega.{arith}
+use lib.Ieee.{nan}
+use Rattle.arith.specs.Double.{at}
+use Rattle.lanes.proofs.Laws.{Stored, none_stored, one_stored}
+use borrow.Author.Rules.{rules}
+use Rattle.sheets.proofs.parameters.put.Given as goal
+
+abbrev pub invariant-loop-q : goal.invariant-loop-q
+invariant-loop-q l = (l.q ≤ l.count) × Stored nan (λ k. l.i + k) (at l.values) l.initial.cvs l.cvs l.q
+
+abbrev pub decreases-loop-q : goal.decreases-loop-q
+decreases-loop-q l = l.count - l.q

@@ -1,0 +1,31 @@
+-- `sheets::sheets::fill` meets its contract. The invariant: the pairs of the first i parameters are in place. Assumes nothing.
+use Prim.Native.Nat.{ℕ, ◌+◌, ◌-◌, ◌*◌, ◌≤◌, ◌<◌}
+use mathlib.Core.Path.{◌≡◌, refl, sym, ap, ◌∙◌}
+use mathlib.Core.List.{List, ◌++◌}
+use native.Mathlib.Omega.{arith}
+use native.Mathlib.Nat.{zero-mul, mul_left_comm}
+use lib.Ieee.{Float}
+use lib.ListN.{length, take, drop}
+use lib.Seq.{length-take-le, take_all}
+use Rattle.arith.specs.Double.{at}
+use Rattle.angular.specs.Aswfa.{aswfa}
+use Rattle.angular.specs.Inside.Turns.{in_turn}
+use Rattle.angular.proofs.Turns.{in_turn_length}
+use Rattle.requests.specs.Refusals.{mode_refusal}
+use Rattle.requests.proofs.Laws.{usable}
+use Rattle.sheets.specs.Sheet.{mode_with, each}
+use Rattle.sheets.proofs.Laws as laws
+use borrow.Author.Rules.{rules}
+use Rattle.sheets.proofs.sheets.fill.Given as goal
+
+-- the pairs of c with the characteristic value cv c
+abbrev pub row_of_pairs : ℕ → ℕ → Float → List Float → (Float → Float) → Float → List Float
+row_of_pairs m n kd xs cv c = in_turn (aswfa m n c (cv c) kd) xs
+
+abbrev pub invariant-loop-i : goal.invariant-loop-i
+invariant-loop-i l =
+    (l.i ≤ length l.cs) × (l.from ≡ l.i * l.width) × (length l.block-1 ≡ length l.initial.block)
+    × ((cv : Float → Float) → ((j : ℕ) → j < length l.cs → at l.cvs j ≡ cv (at l.cs j)) → l.block-1 ≡ each (row_of_pairs l.m l.n l.kd l.xs cv) (take l.i l.cs) ++ drop l.from l.initial.block)
+
+abbrev pub decreases-loop-i : goal.decreases-loop-i
+decreases-loop-i l = length l.cs - l.i

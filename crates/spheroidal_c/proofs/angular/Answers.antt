@@ -1,0 +1,6 @@
+-- `spheroidal_c::angular` meets its contract. Assumes nothing.
+use borrow.Author.Rules.{rules}
+use Rattle.spheroidal_c.proofs.angular.Goals as goal
+
+pub returns : goal.returns
+returns c = rw (← c.angular.ensures) c.put_pair.ensures

@@ -1,0 +1,6 @@
+-- `spheroidal_c::spheroidal_oblate_first_kind` meets its contract. Assumes nothing.
+use borrow.Author.Rules.{rules}
+use Rattle.spheroidal_c.proofs.spheroidal_oblate_first_kind.Goals as goal
+
+pub returns : goal.returns
+returns c = rw (← c.first_kind.ensures) c.put_pair.ensures

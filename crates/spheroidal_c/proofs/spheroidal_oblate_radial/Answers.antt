@@ -1,0 +1,6 @@
+-- `spheroidal_c::spheroidal_oblate_radial` meets its contract. Assumes nothing.
+use borrow.Author.Rules.{rules}
+use Rattle.spheroidal_c.proofs.spheroidal_oblate_radial.Goals as goal
+
+pub returns : goal.returns
+returns c = rw (← c.radial.ensures) c.put_quadruple.ensures

@@ -1,0 +1,18 @@
+-- `stream::response::put_d_lines` meets its contract. The invariant: the lines of the modes so far are put. Assumes nothing.
+use Prim.Native.Nat.{◌+◌, ◌-◌, ◌*◌, ◌≤◌}
+use mathlib.Core.Path.{◌≡◌, refl}
+use native.Mathlib.Omega.{arith}
+use native.Mathlib.Numerals.{add-one}
+use lib.ListN.{length}
+use borrow.Author.Rules.{rules}
+use Rattle.records.specs.Text.{Put}
+use Rattle.records.proofs.Laws.{put_nothing, put_then, put_length}
+use Rattle.stream.specs.Response.{d_lines}
+use Rattle.stream.proofs.response.put_d_lines.Given as goal
+
+abbrev pub invariant-loop-j : goal.invariant-loop-j
+invariant-loop-j l =
+    (l.j ≤ l.count) × (length l.out-1 ≡ length l.initial.out) × (l.used ≤ l.at + 46 * l.j) × Put l.initial.out l.out-1 l.at l.used (d_lines l.index l.m l.values l.j)
+
+abbrev pub decreases-loop-j : goal.decreases-loop-j
+decreases-loop-j l = l.count - l.j

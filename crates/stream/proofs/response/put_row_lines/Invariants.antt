@@ -1,0 +1,19 @@
+-- `stream::response::put_row_lines` meets its contract. The invariant: the lines of the modes so far are put. Assumes nothing.
+use Prim.Native.Nat.{◌+◌, ◌-◌, ◌*◌, ◌≤◌}
+use mathlib.Core.Path.{◌≡◌, refl}
+use native.Mathlib.Omega.{arith}
+use native.Mathlib.Numerals.{add-one}
+use lib.ListN.{length}
+use borrow.Author.Rules.{rules}
+use Rattle.records.specs.Text.{Put}
+use Rattle.records.proofs.Laws.{put_nothing, put_then, put_length}
+use Rattle.segv.specs.Row.{slices}
+use Rattle.stream.specs.Response.{row_lines}
+use Rattle.stream.proofs.response.put_row_lines.Given as goal
+
+abbrev pub invariant-loop-j : goal.invariant-loop-j
+invariant-loop-j l =
+    (l.j ≤ l.count) × (length l.out-1 ≡ length l.initial.out) × (l.used ≤ l.at + 124 * l.j) × Put l.initial.out l.out-1 l.at l.used (row_lines l.index l.m (slices l.values l.steps l.lowers l.uppers l.substituted) l.j)
+
+abbrev pub decreases-loop-j : goal.decreases-loop-j
+decreases-loop-j l = l.count - l.j
