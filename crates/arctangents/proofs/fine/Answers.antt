@@ -5,8 +5,9 @@ use lib.Ieee.Positive.{positive, num, den, den_pos}
 use Rattle.arctangents.specs.Inside.ArctangentValues as ArctangentValues
 use Rattle.arctangents.proofs.Range.{two_positive, below_two, fine_none, fine_upto, fine_some, fine_shifted, shift_of}
 use Rattle.arctangents.proofs.fine.Goals as goal
+use Rattle.arctangents.proofs.fine.Goals.{Start}
 
-above : (c : goal.Start) → T (positive c.args.g)
+above : (c : Start) → T (positive c.args.g)
 above c = two_positive c.args.g c.requires.fact_1 c.requires.fact_2
 
 pub unpack-s-requires : goal.unpack-s-requires

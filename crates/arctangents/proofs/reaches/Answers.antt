@@ -9,11 +9,12 @@ use borrow.Author.Tests.{ltb-true, ltb-false, leb-true, leb-false, lt-ltb, le-lt
 use Rattle.arctangents.specs.Inside.ArctangentValues as ArctangentValues
 use Rattle.arctangents.proofs.Sides.{reach_up, reach_down, unreached_up, unreached_small, unreached_down, unreached_far}
 use Rattle.arctangents.proofs.reaches.Goals as goal
+use Rattle.arctangents.proofs.reaches.Goals.{Else-d-lt64, Else-d-lt64-2}
 
-p_word : (c : goal.Else-d-lt64) → c.args.p < 2 ^ 64
+p_word : (c : Else-d-lt64) → c.args.p < 2 ^ 64
 p_word c = omega arith
 
-q_word : (c : goal.Else-d-lt64-2) → c.args.q < 2 ^ 64
+q_word : (c : Else-d-lt64-2) → c.args.q < 2 ^ 64
 q_word c = omega arith
 
 far : (d : ℕ) → 64 ≤ d → 63 ≤ d

@@ -7,8 +7,9 @@ use native.Mathlib.Numerals.{add-one}
 use Rattle.logarithms.specs.Inside.LogarithmValues.{turned, binary_log}
 use Rattle.logarithms.proofs.Squaring.{Close, turn, close_first, close_next, close_last, square_in, few}
 use Rattle.logarithms.proofs.binary_log.Goals as goal
+use Rattle.logarithms.proofs.binary_log.Goals.{In-loop-i}
 
-sq : (c : goal.In-loop-i) → (2 ^ 62 ≤ c.loop-i.y * c.loop-i.y) × (c.loop-i.y * c.loop-i.y < 2 ^ 64)
+sq : (c : In-loop-i) → (2 ^ 62 ≤ c.loop-i.y * c.loop-i.y) × (c.loop-i.y * c.loop-i.y < 2 ^ 64)
 sq c = square_in c.loop-i.y c.loop-i.invariant.1.least c.loop-i.invariant.1.most
 
 pub loop-i-init : goal.loop-i-init

@@ -9,7 +9,7 @@ use borrow.Author.Rules.{rules}
 use Rattle.rows.proofs.lessen.Given as goal
 
 abbrev pub invariant-loop-j : goal.invariant-loop-j
-invariant-loop-j l = (l.j ≤ l.n) × (length l.out-1 ≡ length l.initial.out) × (l.out-1 ≡ lessened l.values l.gamma_squared l.j l.initial.out)
+invariant-loop-j l = (l.j ≤ l.n) × (length l.out ≡ length l.initial.out) × (l.out ≡ lessened l.values l.gamma_squared l.j l.initial.out)
 
 abbrev pub decreases-loop-j : goal.decreases-loop-j
 decreases-loop-j l = l.n - l.j

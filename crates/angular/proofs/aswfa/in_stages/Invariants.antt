@@ -10,7 +10,7 @@ use Rattle.angular.proofs.Laws.{before_signs_same}
 use Rattle.angular.proofs.aswfa.in_stages.Given as goal
 
 abbrev pub invariant-loop-count : goal.invariant-loop-count
-invariant-loop-count l = (16 ≤ l.count) × (l.count ≤ 212) × StandsFor l.df l.m l.n l.c l.at l.ck-1
+invariant-loop-count l = (16 ≤ l.count) × (l.count ≤ 212) × StandsFor l.df l.m l.n l.c l.at l.ck
 
 abbrev pub decreases-loop-count : goal.decreases-loop-count
 decreases-loop-count l = 212 - l.count

@@ -26,9 +26,9 @@ loop-k-init c = (
 pub returns-then-negligible : goal.returns-then-negligible
 returns-then-negligible c = let a = c.args in
     let l = c.loop-k in
-    let all : (ys : List Float) → Agree (a.nm2 + 1) a.ck.now ys → (more : ℕ) → l.su1-1 ⊕ at a.ck.now l.k ⊗ l.p ≡ su1_of ys a.x1 (a.nm2 + more) = λ ys same more.
+    let all : (ys : List Float) → Agree (a.nm2 + 1) a.ck.now ys → (more : ℕ) → l.su1 ⊕ at a.ck.now l.k ⊗ l.p ≡ su1_of ys a.x1 (a.nm2 + more) = λ ys same more.
     let h : suc (a.nm2 + more) - l.k ≡ suc (a.nm2 + more - l.k) = omega arith in
-    summed_stop (value_term ys a.x1) (a.nm2 + more - l.k) l.k _ l.su1-1 (rw (l.invariant.1, same l.k (omega arith))) (sym c.negligible.ensures ∙ c.if-negligible.true) ∙ rw h at (l.invariant.2 ys same more) in
+    summed_stop (value_term ys a.x1) (a.nm2 + more - l.k) l.k _ l.su1 (rw (l.invariant.1, same l.k (omega arith))) (sym c.negligible.ensures ∙ c.if-negligible.true) ∙ rw h at (l.invariant.2 ys same more) in
     record { su_value = rw (add-zero a.nm2) at (all a.ck.now (λ i g. refl) 0); fact = λ e ys same more. sym (all ys same more) }
 
 pub loop-k-preserved : goal.loop-k-preserved
@@ -40,7 +40,7 @@ loop-k-preserved c = let a = c.args in
       λ ys same more.
           let h : suc (a.nm2 + more) - l.k ≡ suc (a.nm2 + more - l.k) = omega arith in
           let h' : suc (a.nm2 + more) - suc l.k ≡ a.nm2 + more - l.k = omega arith in
-          rw (add-one l.k, h') (summed_on (value_term ys a.x1) (a.nm2 + more - l.k) l.k _ l.su1-1 (rw (l.invariant.1, same l.k (omega arith))) (sym c.negligible.ensures ∙ c.if-negligible.false) ∙ rw h at (l.invariant.2 ys same more)),
+          rw (add-one l.k, h') (summed_on (value_term ys a.x1) (a.nm2 + more - l.k) l.k _ l.su1 (rw (l.invariant.1, same l.k (omega arith))) (sym c.negligible.ensures ∙ c.if-negligible.false) ∙ rw h at (l.invariant.2 ys same more)),
     )
 
 pub returns : goal.returns

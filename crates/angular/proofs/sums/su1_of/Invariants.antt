@@ -16,7 +16,7 @@ use Rattle.angular.proofs.Laws.{summed_stop, summed_on}
 use Rattle.angular.proofs.sums.su1_of.Given as goal
 
 abbrev pub invariant-loop-k : goal.invariant-loop-k
-invariant-loop-k l = (l.k ≤ suc l.nm2) × (l.p ≡ power l.x1 l.k) × ((ys : List Float) → Agree (l.nm2 + 1) l.ck ys → (more : ℕ) → summed (value_term ys l.x1) (suc (l.nm2 + more) - l.k) l.k l.su1-1 ≡ su1_of ys l.x1 (l.nm2 + more))
+invariant-loop-k l = (l.k ≤ suc l.nm2) × (l.p ≡ power l.x1 l.k) × ((ys : List Float) → Agree (l.nm2 + 1) l.ck ys → (more : ℕ) → summed (value_term ys l.x1) (suc (l.nm2 + more) - l.k) l.k l.su1 ≡ su1_of ys l.x1 (l.nm2 + more))
 
 abbrev pub decreases-loop-k : goal.decreases-loop-k
 decreases-loop-k l = suc l.nm2 - l.k

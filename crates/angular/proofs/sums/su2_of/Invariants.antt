@@ -16,7 +16,7 @@ use Rattle.angular.proofs.Laws.{summed_stop, summed_on}
 use Rattle.angular.proofs.sums.su2_of.Given as goal
 
 abbrev pub invariant-loop-k : goal.invariant-loop-k
-invariant-loop-k l = (2 ≤ l.k) × (l.k ≤ suc l.nm2) × (l.p ≡ power l.x1 (l.k - 1)) × ((ys : List Float) → Agree (l.nm2 + 1) l.ck ys → (more : ℕ) → summed (derivative_term ys l.x1) (suc (l.nm2 + more) - l.k) l.k l.su2-1 ≡ su2_of ys l.x1 (l.nm2 + more))
+invariant-loop-k l = (2 ≤ l.k) × (l.k ≤ suc l.nm2) × (l.p ≡ power l.x1 (l.k - 1)) × ((ys : List Float) → Agree (l.nm2 + 1) l.ck ys → (more : ℕ) → summed (derivative_term ys l.x1) (suc (l.nm2 + more) - l.k) l.k l.su2 ≡ su2_of ys l.x1 (l.nm2 + more))
 
 abbrev pub decreases-loop-k : goal.decreases-loop-k
 decreases-loop-k l = suc l.nm2 - l.k

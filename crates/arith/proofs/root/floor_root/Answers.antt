@@ -4,13 +4,14 @@ use Rattle.std.proofs.Common.{suc, ◌*◌, ◌/◌, ◌^◌, ◌<◌, sym, le_o
 use Rattle.arith.proofs.root.Squares.{floor_root_unique}
 use Rattle.arith.proofs.root.Newton.{newton_above, sq_pos, quotient_lt, first_quotient_lt}
 use Rattle.arith.proofs.root.floor_root.Goals as goal
+use Rattle.arith.proofs.root.floor_root.Goals.{After-first_guess-guess, In-loop-g}
 
 -- n / guess
-first : (c : goal.After-first_guess-guess) → c.args.n / c.first_guess-guess.result < 2 ^ 29
+first : (c : After-first_guess-guess) → c.args.n / c.first_guess-guess.result < 2 ^ 29
 first c = first_quotient_lt c.args.n c.first_guess-guess.result c.requires.1 c.first_guess-guess.ensures.0
 
 -- n / g in the loop
-later : (c : goal.In-loop-g) → c.args.n / c.loop-g.g < c.loop-g.g
+later : (c : In-loop-g) → c.args.n / c.loop-g.g < c.loop-g.g
 later c = quotient_lt c.args.n c.loop-g.g c.loop-g-test.true
 
 pub nonzero_div-g : goal.nonzero_div-g

@@ -5,15 +5,16 @@ use lib.Count.{count_leading_zeros, leading_le}
 use Rattle.arith.specs.Inside.Scaled.{scaled}
 use Rattle.arith.proofs.root.Unpack.{mask, Moved, moved, kept, scaled_low, scaled_high}
 use Rattle.arith.proofs.root.scale.Goals as goal
+use Rattle.arith.proofs.root.scale.Goals.{Then-field-eq0}
 
 -- with a field of zeros the pattern is its digits
-short : (c : goal.Then-field-eq0) → c.args.bits < 2 ^ 52
+short : (c : Then-field-eq0) → c.args.bits < 2 ^ 52
 short c = omega arith
 
-digits : (c : goal.Then-field-eq0) → bit_and c.args.bits (2 ^ 52 - 1) ≡ c.args.bits
+digits : (c : Then-field-eq0) → bit_and c.args.bits (2 ^ 52 - 1) ≡ c.args.bits
 digits c = mask c.args.bits ∙ mod-eq_of_lt (short c)
 
-facts : (c : goal.Then-field-eq0) → Moved c.args.bits (count_leading_zeros 64 c.args.bits)
+facts : (c : Then-field-eq0) → Moved c.args.bits (count_leading_zeros 64 c.args.bits)
 facts c = moved c.args.bits c.requires.0 (short c)
 
 pub overflow_cast-zeros : goal.overflow_cast-zeros

@@ -5,16 +5,17 @@ use lib.Ieee.Casts.{to_signed_in}
 use Rattle.arith.proofs.truncation.Range.{in_range, in_wider, below_range, above_range, truncate_nan}
 use Rattle.arith.proofs.Numbers.{no_number}
 use Rattle.arith.proofs.truncation.truncate.Goals as goal
+use Rattle.arith.proofs.truncation.truncate.Goals.{After-truncating_f64_to_i64}
 
 -- what the call returned
-is : (c : goal.After-truncating_f64_to_i64) → c.truncating_f64_to_i64.result ≡ to_signed 31 c.args.x
+is : (c : After-truncating_f64_to_i64) → c.truncating_f64_to_i64.result ≡ to_signed 31 c.args.x
 unfolding of_bits neg
 is c = c.truncating_f64_to_i64.ensures ∙ in_range c.args.x c.if-x.true c.if-x-2.true
 
-small : (c : goal.After-truncating_f64_to_i64) → SFits w32 c.truncating_f64_to_i64.result
+small : (c : After-truncating_f64_to_i64) → SFits w32 c.truncating_f64_to_i64.result
 small c = record { sfits = rw (is c) (to_signed_in 31 c.args.x) }
 
-wide : (c : goal.After-truncating_f64_to_i64) → to_z w64 (of_z w64 c.truncating_f64_to_i64.result) ≡ c.truncating_f64_to_i64.result
+wide : (c : After-truncating_f64_to_i64) → to_z w64 (of_z w64 c.truncating_f64_to_i64.result) ≡ c.truncating_f64_to_i64.result
 wide c = to_z-of_z (record { sfits = rw c.truncating_f64_to_i64.ensures (to_signed_in 63 c.args.x) })
 
 pub truncating_f64_to_i64-requires : goal.truncating_f64_to_i64-requires

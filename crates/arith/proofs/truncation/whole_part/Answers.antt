@@ -5,9 +5,10 @@ use lib.Ieee.Casts.{to_signed_in, to_unsigned-lt}
 use Rattle.arith.specs.Truncation.{whole_part}
 use Rattle.arith.proofs.Laws.{truncate_whole, whole_none}
 use Rattle.arith.proofs.truncation.whole_part.Goals as goal
+use Rattle.arith.proofs.truncation.whole_part.Goals.{After-truncate}
 
 -- what the call returned, as the machine reads it back
-is : (c : goal.After-truncate) → to_z w32 (of_z w32 c.truncate.result) ≡ pos (whole_part c.args.x)
+is : (c : After-truncate) → to_z w32 (of_z w32 c.truncate.result) ≡ pos (whole_part c.args.x)
 unfolding of_bits
 is c =
     let x = c.args.x in

@@ -8,7 +8,7 @@ use borrow.Author.Rules.{rules}
 use Rattle.bessel.proofs.sphj.derive.Given as goal
 
 abbrev pub invariant-loop-k : goal.invariant-loop-k
-invariant-loop-k l = (l.k ≤ l.nm) × (l.dj-1 ≡ derived l.x l.sj l.k l.initial.dj)
+invariant-loop-k l = (l.k ≤ l.nm) × (l.dj ≡ derived l.x l.sj l.k l.initial.dj)
 
 abbrev pub decreases-loop-k : goal.decreases-loop-k
 decreases-loop-k l = l.nm - l.k

@@ -8,7 +8,7 @@ use borrow.Author.Rules.{rules}
 use Rattle.bessel.proofs.sphj.scale.Given as goal
 
 abbrev pub invariant-loop-k : goal.invariant-loop-k
-invariant-loop-k l = (l.k ≤ l.n) × (l.sj-1 ≡ scaled l.cs l.k l.initial.sj)
+invariant-loop-k l = (l.k ≤ l.n) × (l.sj ≡ scaled l.cs l.k l.initial.sj)
 
 abbrev pub decreases-loop-k : goal.decreases-loop-k
 decreases-loop-k l = l.n - l.k

@@ -4,8 +4,9 @@ use native.Mathlib.Omega.{arith}
 use Rattle.circle.specs.Inside.FixedValues.{high}
 use Rattle.circle.proofs.Halves.{is_upper, small, Small}
 use Rattle.circle.proofs.fixed.high.Goals as goal
+use Rattle.circle.proofs.fixed.high.Goals.{Start}
 
-fits : (c : goal.Start) → Small c.args.a c.args.b
+fits : (c : Start) → Small c.args.a c.args.b
 fits c = small c.args.a c.args.b c.requires.0 c.requires.1
 
 pub overflow_mul-result : goal.overflow_mul-result

@@ -15,7 +15,7 @@ pub returns-then-settled : goal.returns-then-settled
 returns-then-settled c = let a = c.args in
     let l = c.loop-i in
     let h : suc a.nm - l.i ≡ suc (a.nm - l.i) = omega arith in
-    terms_stop _ a.m a.ip a.k (a.nm - l.i) l.i l.r _ l.sum-1 l.sw c.next_factor-r.ensures (sym c.settled.ensures ∙ c.if-settled.true) ∙ rw h at l.invariant.2
+    terms_stop _ a.m a.ip a.k (a.nm - l.i) l.i l.r _ l.sum l.sw c.next_factor-r.ensures (sym c.settled.ensures ∙ c.if-settled.true) ∙ rw h at l.invariant.2
 
 pub loop-i-preserved : goal.loop-i-preserved
 loop-i-preserved c = let a = c.args in
@@ -24,7 +24,7 @@ loop-i-preserved c = let a = c.args in
     let h' : suc a.nm - (l.i + 1) ≡ a.nm - l.i = omega arith in (
       omega arith,
       omega arith,
-      rw (h', add-one l.i) (terms_on _ a.m a.ip a.k (a.nm - l.i) l.i l.r _ l.sum-1 l.sw c.next_factor-r.ensures (sym c.settled.ensures ∙ c.if-settled.false) ∙ rw h at l.invariant.2),
+      rw (h', add-one l.i) (terms_on _ a.m a.ip a.k (a.nm - l.i) l.i l.r _ l.sum l.sw c.next_factor-r.ensures (sym c.settled.ensures ∙ c.if-settled.false) ∙ rw h at l.invariant.2),
     )
 
 pub returns : goal.returns

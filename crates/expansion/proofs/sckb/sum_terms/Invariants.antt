@@ -9,7 +9,7 @@ use Rattle.expansion.proofs.Laws.{terms_stop, terms_on}
 use Rattle.expansion.proofs.sckb.sum_terms.Given as goal
 
 abbrev pub invariant-loop-i : goal.invariant-loop-i
-invariant-loop-i l = (l.k < l.i) × (l.i ≤ suc l.nm) × (terms l.df l.m l.ip l.k (suc l.nm - l.i) l.i l.r l.sum-1 l.sw ≡ terms l.df l.m l.ip l.k (suc l.nm - l.from) l.from l.before l.sum0 l.sw0)
+invariant-loop-i l = (l.k < l.i) × (l.i ≤ suc l.nm) × (terms l.df l.m l.ip l.k (suc l.nm - l.i) l.i l.r l.sum l.sw ≡ terms l.df l.m l.ip l.k (suc l.nm - l.from) l.from l.before l.sum0 l.sw0)
 
 abbrev pub decreases-loop-i : goal.decreases-loop-i
 decreases-loop-i l = suc l.nm - l.i

@@ -8,7 +8,7 @@ use Rattle.expansion.specs.Sdmn.{scaled}
 use Rattle.expansion.proofs.sdmn.scale.Given as goal
 
 abbrev pub invariant-loop-i : goal.invariant-loop-i
-invariant-loop-i l = (l.from ≤ l.i) × (l.i ≤ l.to) × (scaled l.x (l.to - l.i) l.i l.df-1 ≡ scaled l.x (l.to - l.from) l.from l.initial.df)
+invariant-loop-i l = (l.from ≤ l.i) × (l.i ≤ l.to) × (scaled l.x (l.to - l.i) l.i l.df ≡ scaled l.x (l.to - l.from) l.from l.initial.df)
 
 abbrev pub decreases-loop-i : goal.decreases-loop-i
 decreases-loop-i l = l.to - l.i

@@ -17,7 +17,7 @@ returns-then-settled c =
     let a = c.args in
     let l = c.loop-k in
     let h : suc a.nm - l.k ≡ suc (a.nm - l.k) = omega arith in
-    past_stop _ a.m a.ip (a.nm - l.k) l.k l.r1 _ l.su2-1 l.sw c.factor_at-r1.ensures (sym c.settled.ensures ∙ c.if-settled.true) ∙ rw h at l.invariant.2
+    past_stop _ a.m a.ip (a.nm - l.k) l.k l.r1 _ l.su2 l.sw c.factor_at-r1.ensures (sym c.settled.ensures ∙ c.if-settled.true) ∙ rw h at l.invariant.2
 
 pub loop-k-preserved : goal.loop-k-preserved
 loop-k-preserved c =
@@ -28,7 +28,7 @@ loop-k-preserved c =
       omega arith,
       omega arith,
       rw (h', add-one l.k)
-          (past_on _ a.m a.ip (a.nm - l.k) l.k l.r1 _ l.su2-1 l.sw c.factor_at-r1.ensures (sym c.settled.ensures ∙ c.if-settled.false) ∙ rw h at l.invariant.2),
+          (past_on _ a.m a.ip (a.nm - l.k) l.k l.r1 _ l.su2 l.sw c.factor_at-r1.ensures (sym c.settled.ensures ∙ c.if-settled.false) ∙ rw h at l.invariant.2),
     )
 
 pub returns : goal.returns

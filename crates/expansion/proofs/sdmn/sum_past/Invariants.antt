@@ -10,7 +10,7 @@ use Rattle.expansion.proofs.Laws.{past_stop, past_on}
 use Rattle.expansion.proofs.sdmn.sum_past.Given as goal
 
 abbrev pub invariant-loop-k : goal.invariant-loop-k
-invariant-loop-k l = (l.kb < l.k) × (l.k ≤ suc l.nm) × (sum_past l.df l.m l.ip (suc l.nm - l.k) l.k l.r1 l.su2-1 l.sw ≡ sum_past l.df l.m l.ip (l.nm - l.kb) (l.kb + 1) l.first #0 #0)
+invariant-loop-k l = (l.kb < l.k) × (l.k ≤ suc l.nm) × (sum_past l.df l.m l.ip (suc l.nm - l.k) l.k l.r1 l.su2 l.sw ≡ sum_past l.df l.m l.ip (l.nm - l.kb) (l.kb + 1) l.first #0 #0)
 
 abbrev pub decreases-loop-k : goal.decreases-loop-k
 decreases-loop-k l = suc l.nm - l.k

@@ -15,9 +15,9 @@ pub loop-i-preserved : goal.loop-i-preserved
 loop-i-preserved c =
     let l = c.loop-i in
     let a = c.args in
-    (omega arith, simp length-set l.invariant.1, rw (add-one l.i) (one_more a.table.now l.out-1 a.from l.i (omega arith) (omega arith) l.invariant.2))
+    (omega arith, simp length-set l.invariant.1, rw (add-one l.i) (one_more a.table.now l.out a.from l.i (omega arith) (omega arith) l.invariant.2))
 
 pub returns : goal.returns
 returns c =
     let l = c.loop-i in
-    all_copied _ l.out-1 l.i (omega arith) l.invariant.1 l.invariant.2
+    all_copied _ l.out l.i (omega arith) l.invariant.1 l.invariant.2

@@ -9,7 +9,7 @@ use borrow.Author.Rules.{rules}
 use Rattle.factors.proofs.block.part.Given as goal
 
 abbrev pub invariant-loop-i : goal.invariant-loop-i
-invariant-loop-i l = (l.i ≤ 200) × (length l.out-1 ≡ 200) × (take l.i l.out-1 ≡ take l.i (drop l.from l.table))
+invariant-loop-i l = (l.i ≤ 200) × (length l.out ≡ 200) × (take l.i l.out ≡ take l.i (drop l.from l.table))
 
 abbrev pub decreases-loop-i : goal.decreases-loop-i
 decreases-loop-i l = 200 - l.i

@@ -16,7 +16,7 @@ pub loop-k-preserved : goal.loop-k-preserved
 loop-k-preserved c =
     let a = c.args in
     let l = c.loop-k in
-    (omega arith, rw (add-one l.k) (rows_on a.m a.ip a.cv a.u _ _ l.w l.bk-1 _ l.k l.invariant.1 c.v_at.ensures c.w_at.ensures))
+    (omega arith, rw (add-one l.k) (rows_on a.m a.ip a.cv a.u _ _ l.w l.bk _ l.k l.invariant.1 c.v_at.ensures c.w_at.ensures))
 
 pub returns : goal.returns
 returns c = let h : c.loop-k.k ≡ c.args.n = omega arith in rw h at c.loop-k.invariant.1

@@ -9,7 +9,7 @@ use Rattle.joining.proofs.Laws.{rows_on}
 use Rattle.joining.proofs.cbk.eliminate_rows.Given as goal
 
 abbrev pub invariant-loop-k : goal.invariant-loop-k
-invariant-loop-k l = (l.k ≤ l.n) × (solved l.w l.bk-1 ≡ rows l.m l.ip l.cv l.u l.k (solved l.initial.w l.initial.bk))
+invariant-loop-k l = (l.k ≤ l.n) × (solved l.w l.bk ≡ rows l.m l.ip l.cv l.u l.k (solved l.initial.w l.initial.bk))
 
 abbrev pub decreases-loop-k : goal.decreases-loop-k
 decreases-loop-k l = l.n - l.k

@@ -8,7 +8,7 @@ use Rattle.joining.proofs.Laws.{ap_on}
 use Rattle.joining.proofs.qstar.ap_of.Given as goal
 
 abbrev pub invariant-loop-i : goal.invariant-loop-i
-invariant-loop-i l = (l.i ≤ l.m) × (l.ap-1 ≡ ap_up_to l.ck l.i)
+invariant-loop-i l = (l.i ≤ l.m) × (l.ap ≡ ap_up_to l.ck l.i)
 
 abbrev pub decreases-loop-i : goal.decreases-loop-i
 decreases-loop-i l = l.m - l.i

@@ -9,7 +9,7 @@ use Rattle.joining.specs.Qstar.{s_at}
 use Rattle.joining.proofs.qstar.s_of.Given as goal
 
 abbrev pub invariant-loop-l : goal.invariant-loop-l
-invariant-loop-l l = (l.l ≤ l.i) × (l.s-1 ≡ s_at (λ q. at l.sk q) l.ap l.i l.l)
+invariant-loop-l l = (l.l ≤ l.i) × (l.s ≡ s_at (λ q. at l.sk q) l.ap l.i l.l)
 
 abbrev pub decreases-loop-l : goal.decreases-loop-l
 decreases-loop-l l = l.i - l.l

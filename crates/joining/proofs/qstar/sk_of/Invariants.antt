@@ -8,7 +8,7 @@ use Rattle.joining.specs.Qstar.{sk_at}
 use Rattle.joining.proofs.qstar.sk_of.Given as goal
 
 abbrev pub invariant-loop-k : goal.invariant-loop-k
-invariant-loop-k l = (l.k ≤ l.l + 1) × (l.sk-1 ≡ sk_at l.ck l.l l.k)
+invariant-loop-k l = (l.k ≤ l.l + 1) × (l.sk ≡ sk_at l.ck l.l l.k)
 
 abbrev pub decreases-loop-k : goal.decreases-loop-k
 decreases-loop-k l = l.l + 1 - l.k

@@ -16,7 +16,7 @@ pub returns-then-stops : goal.returns-then-stops
 returns-then-stops c = let a = c.args in
     let l = c.loop-k in
     let h : suc a.nm - l.k ≡ suc (a.nm - l.k) = omega arith in
-    sum_stop a.test _ a.m a.ip a.half (a.nm - l.k) l.k l.r _ l.sum-1 l.sw c.next_factor-r.ensures (sym c.stops.ensures ∙ c.if-stops.true) ∙ rw h at l.invariant.1
+    sum_stop a.test _ a.m a.ip a.half (a.nm - l.k) l.k l.r _ l.sum l.sw c.next_factor-r.ensures (sym c.stops.ensures ∙ c.if-stops.true) ∙ rw h at l.invariant.1
 
 pub loop-k-preserved : goal.loop-k-preserved
 loop-k-preserved c = let a = c.args in
@@ -24,7 +24,7 @@ loop-k-preserved c = let a = c.args in
     let h : suc a.nm - l.k ≡ suc (a.nm - l.k) = omega arith in
     let h' : suc a.nm - (l.k + 1) ≡ a.nm - l.k = omega arith in (
       omega arith,
-      rw (h', add-one l.k) (sum_on_lem a.test _ a.m a.ip a.half (a.nm - l.k) l.k l.r _ l.sum-1 l.sw c.next_factor-r.ensures (sym c.stops.ensures ∙ c.if-stops.false) ∙ rw h at l.invariant.1),
+      rw (h', add-one l.k) (sum_on_lem a.test _ a.m a.ip a.half (a.nm - l.k) l.k l.r _ l.sum l.sw c.next_factor-r.ensures (sym c.stops.ensures ∙ c.if-stops.false) ∙ rw h at l.invariant.1),
     )
 
 pub returns : goal.returns

@@ -9,7 +9,7 @@ use Rattle.joining.proofs.Laws.{sum_stop, sum_on_lem}
 use Rattle.joining.proofs.sums.expansion_partial.Given as goal
 
 abbrev pub invariant-loop-k : goal.invariant-loop-k
-invariant-loop-k l = (2 ≤ l.k) × (sum_on l.test l.df l.m l.ip l.half (suc l.nm - l.k) l.k l.r l.sum-1 l.sw ≡ expansion_partial l.test l.df l.m l.ip l.half l.nm l.reg)
+invariant-loop-k l = (2 ≤ l.k) × (sum_on l.test l.df l.m l.ip l.half (suc l.nm - l.k) l.k l.r l.sum l.sw ≡ expansion_partial l.test l.df l.m l.ip l.half l.nm l.reg)
 
 abbrev pub decreases-loop-k : goal.decreases-loop-k
 decreases-loop-k l = suc l.nm - l.k

@@ -17,7 +17,7 @@ pub loop-j-preserved : goal.loop-j-preserved
 loop-j-preserved c =
     let s = c.args.s.now in
     let l = c.loop-j in
-    (omega arith, λ h. let none = neither (eq (at s l.j) #0) l.zero-1 h in one_more (λ k. eq (at s k) #0 ≡ false) l.j (l.invariant.1 none.1) none.0)
+    (omega arith, λ h. let none = neither (eq (at s l.j) #0) l.zero h in one_more (λ k. eq (at s k) #0 ≡ false) l.j (l.invariant.1 none.1) none.0)
 
 pub returns : goal.returns
 returns c = λ h j less. c.loop-j.invariant.1 h j (omega arith)

@@ -11,7 +11,7 @@ use borrow.Author.Rules.{rules}
 use Rattle.lanes.proofs.pivots.any_zero.Given as goal
 
 abbrev pub invariant-loop-j : goal.invariant-loop-j
-invariant-loop-j l = (l.j ≤ 8) × (l.zero-1 ≡ false → (k : ℕ) → k < l.j → eq (at l.s k) #0 ≡ false)
+invariant-loop-j l = (l.j ≤ 8) × (l.zero ≡ false → (k : ℕ) → k < l.j → eq (at l.s k) #0 ≡ false)
 
 abbrev pub decreases-loop-j : goal.decreases-loop-j
 decreases-loop-j l = 8 - l.j

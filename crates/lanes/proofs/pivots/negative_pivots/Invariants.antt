@@ -11,7 +11,7 @@ use borrow.Author.Rules.{rules}
 use Rattle.lanes.proofs.pivots.negative_pivots.Given as goal
 
 abbrev pub invariant-loop-i : goal.invariant-loop-i
-invariant-loop-i l = (l.i ≤ l.entries) × (length l.s-1 ≡ 8) × (length l.negative-1 ≡ 8) × ((j : ℕ) → j < 8 → Lane l.ds l.es j (at l.shifts j) l.i (at l.s-1 j) (get_or l.negative-1 j 0))
+invariant-loop-i l = (l.i ≤ l.entries) × (length l.s ≡ 8) × (length l.negative ≡ 8) × ((j : ℕ) → j < 8 → Lane l.ds l.es j (at l.shifts j) l.i (at l.s j) (get_or l.negative j 0))
 
 abbrev pub decreases-loop-i : goal.decreases-loop-i
 decreases-loop-i l = l.entries - l.i

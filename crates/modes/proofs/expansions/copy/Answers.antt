@@ -14,8 +14,8 @@ loop-j-init c = (omega arith, refl, refl, refl)
 pub loop-j-preserved : goal.loop-j-preserved
 loop-j-preserved c =
     let l = c.loop-j in
-    let w = copied _ l.out-1 _ l.j (omega arith) (omega arith) l.invariant.2 l.invariant.3 in
+    let w = copied _ l.out _ l.j (omega arith) (omega arith) l.invariant.2 l.invariant.3 in
     (omega arith, simp length-set l.invariant.1, rw (add-one l.j) w.0, rw (add-one l.j) w.1)
 
 pub returns : goal.returns
-returns c = let l = c.loop-j in all_copied _ l.out-1 _ l.j (omega arith) c.requires.0 l.invariant.2 l.invariant.3
+returns c = let l = c.loop-j in all_copied _ l.out _ l.j (omega arith) c.requires.0 l.invariant.2 l.invariant.3

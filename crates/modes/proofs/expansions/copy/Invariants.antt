@@ -9,7 +9,7 @@ use Rattle.modes.proofs.Laws.{copied, all_copied}
 use Rattle.modes.proofs.expansions.copy.Given as goal
 
 abbrev pub invariant-loop-j : goal.invariant-loop-j
-invariant-loop-j l = (l.j ≤ 200) × (length l.out-1 ≡ length l.initial.out) × (take l.j l.out-1 ≡ take l.j l.df) × (drop l.j l.out-1 ≡ drop l.j l.initial.out)
+invariant-loop-j l = (l.j ≤ 200) × (length l.out ≡ length l.initial.out) × (take l.j l.out ≡ take l.j l.df) × (drop l.j l.out ≡ drop l.j l.initial.out)
 
 abbrev pub decreases-loop-j : goal.decreases-loop-j
 decreases-loop-j l = 200 - l.j

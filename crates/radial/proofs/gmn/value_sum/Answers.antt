@@ -18,7 +18,7 @@ returns-then-ends c =
     let a = c.args in
     let l = c.loop-k in
     let h : suc a.nm - l.k ≡ suc (suc a.nm - suc l.k) = omega arith in
-    sum_stop (value_term a.bk.now a.x) (suc a.nm - suc l.k) l.k _ l.sum-1 l.gw (rw l.invariant.2) (sym c.ends.ensures ∙ c.if-ends.true) ∙ rw h at l.invariant.3
+    sum_stop (value_term a.bk.now a.x) (suc a.nm - suc l.k) l.k _ l.sum l.gw (rw l.invariant.2) (sym c.ends.ensures ∙ c.if-ends.true) ∙ rw h at l.invariant.3
 
 pub loop-k-preserved : goal.loop-k-preserved
 loop-k-preserved c =
@@ -28,7 +28,7 @@ loop-k-preserved c =
       omega arith,
       omega arith,
       next_power a.x l.p l.k l.invariant.0 l.invariant.2,
-      rw (add-one l.k) (sum_on_lem (value_term a.bk.now a.x) (suc a.nm - suc l.k) l.k _ l.sum-1 l.gw (rw l.invariant.2) (sym c.ends.ensures ∙ c.if-ends.false) ∙ rw h at l.invariant.3),
+      rw (add-one l.k) (sum_on_lem (value_term a.bk.now a.x) (suc a.nm - suc l.k) l.k _ l.sum l.gw (rw l.invariant.2) (sym c.ends.ensures ∙ c.if-ends.false) ∙ rw h at l.invariant.3),
     )
 
 pub returns : goal.returns

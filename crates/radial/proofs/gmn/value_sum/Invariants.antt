@@ -10,7 +10,7 @@ use Rattle.radial.proofs.GmnLaws.{sum_stop, sum_on_lem, next_power}
 use Rattle.radial.proofs.gmn.value_sum.Given as goal
 
 abbrev pub invariant-loop-k : goal.invariant-loop-k
-invariant-loop-k l = (1 ≤ l.k) × (l.k ≤ suc l.nm) × (l.p ≡ power l.x (2 * l.k - 2)) × (sum_on (value_term l.bk l.x) (suc l.nm - l.k) l.k l.sum-1 l.gw ≡ value_sum l.bk l.x l.nm)
+invariant-loop-k l = (1 ≤ l.k) × (l.k ≤ suc l.nm) × (l.p ≡ power l.x (2 * l.k - 2)) × (sum_on (value_term l.bk l.x) (suc l.nm - l.k) l.k l.sum l.gw ≡ value_sum l.bk l.x l.nm)
 
 abbrev pub decreases-loop-k : goal.decreases-loop-k
 decreases-loop-k l = suc l.nm - l.k

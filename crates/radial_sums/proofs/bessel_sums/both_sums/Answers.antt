@@ -17,28 +17,28 @@ returns-then-stops-2 c =
     let a = c.args in
     let l = c.loop-j in
     let h : a.nm - l.j ≡ suc (a.nm - suc l.j) = omega arith in
-    sums_are _ _ _ _ (bessel_stop a.df.now a.sj.now a.m a.ip a.half (a.nm - suc l.j) l.j l.r _ _ l.value-1 l.value0 c.factor-r.ensures c.lg.ensures _ c.stops.ensures c.if-stops.true ∙ rw h at l.invariant.1) (bessel_stop a.df.now a.dj.now a.m a.ip a.half (a.nm - suc l.j) l.j l.r _ _ l.derivative-1 l.derivative0 c.factor-r.ensures c.lg.ensures _ c.stops-then-stops.ensures c.if-stops-2.true ∙ rw h at l.invariant.2)
+    sums_are _ _ _ _ (bessel_stop a.df.now a.sj.now a.m a.ip a.half (a.nm - suc l.j) l.j l.r _ _ l.value l.value0 c.factor-r.ensures c.lg.ensures _ c.stops.ensures c.if-stops.true ∙ rw h at l.invariant.1) (bessel_stop a.df.now a.dj.now a.m a.ip a.half (a.nm - suc l.j) l.j l.r _ _ l.derivative l.derivative0 c.factor-r.ensures c.lg.ensures _ c.stops-then-stops.ensures c.if-stops-2.true ∙ rw h at l.invariant.2)
 
 pub returns-then-stops : goal.returns-then-stops
 returns-then-stops c =
     let a = c.args in
     let l = c.loop-j in
     let h : a.nm - l.j ≡ suc (a.nm - suc l.j) = omega arith in
-    sums_are _ _ _ _ (bessel_stop a.df.now a.sj.now a.m a.ip a.half (a.nm - suc l.j) l.j l.r _ _ l.value-1 l.value0 c.factor-r.ensures c.lg.ensures _ c.stops.ensures c.if-stops.true ∙ rw h at l.invariant.1) (c.rest-derivative.ensures ∙ rw (add-one l.j) (bessel_on_lem a.df.now a.dj.now a.m a.ip a.half (a.nm - suc l.j) l.j l.r _ _ l.derivative-1 l.derivative0 c.factor-r.ensures c.lg.ensures _ c.stops-then-stops.ensures c.if-stops-2.false) ∙ rw h at l.invariant.2)
+    sums_are _ _ _ _ (bessel_stop a.df.now a.sj.now a.m a.ip a.half (a.nm - suc l.j) l.j l.r _ _ l.value l.value0 c.factor-r.ensures c.lg.ensures _ c.stops.ensures c.if-stops.true ∙ rw h at l.invariant.1) (c.rest-derivative.ensures ∙ rw (add-one l.j) (bessel_on_lem a.df.now a.dj.now a.m a.ip a.half (a.nm - suc l.j) l.j l.r _ _ l.derivative l.derivative0 c.factor-r.ensures c.lg.ensures _ c.stops-then-stops.ensures c.if-stops-2.false) ∙ rw h at l.invariant.2)
 
 pub returns-then-stops-3 : goal.returns-then-stops-3
 returns-then-stops-3 c =
     let a = c.args in
     let l = c.loop-j in
     let h : a.nm - l.j ≡ suc (a.nm - suc l.j) = omega arith in
-    sums_are _ _ _ _ (c.rest-value.ensures ∙ rw (add-one l.j) (bessel_on_lem a.df.now a.sj.now a.m a.ip a.half (a.nm - suc l.j) l.j l.r _ _ l.value-1 l.value0 c.factor-r.ensures c.lg.ensures _ c.stops.ensures c.if-stops.false) ∙ rw h at l.invariant.1) (bessel_stop a.df.now a.dj.now a.m a.ip a.half (a.nm - suc l.j) l.j l.r _ _ l.derivative-1 l.derivative0 c.factor-r.ensures c.lg.ensures _ c.stops-in-loop-j.ensures c.if-stops-3.true ∙ rw h at l.invariant.2)
+    sums_are _ _ _ _ (c.rest-value.ensures ∙ rw (add-one l.j) (bessel_on_lem a.df.now a.sj.now a.m a.ip a.half (a.nm - suc l.j) l.j l.r _ _ l.value l.value0 c.factor-r.ensures c.lg.ensures _ c.stops.ensures c.if-stops.false) ∙ rw h at l.invariant.1) (bessel_stop a.df.now a.dj.now a.m a.ip a.half (a.nm - suc l.j) l.j l.r _ _ l.derivative l.derivative0 c.factor-r.ensures c.lg.ensures _ c.stops-in-loop-j.ensures c.if-stops-3.true ∙ rw h at l.invariant.2)
 
 pub loop-j-preserved : goal.loop-j-preserved
 loop-j-preserved c =
     let a = c.args in
     let l = c.loop-j in
     let h : a.nm - l.j ≡ suc (a.nm - suc l.j) = omega arith in
-    (omega arith, rw (add-one l.j) (bessel_on_lem a.df.now a.sj.now a.m a.ip a.half (a.nm - suc l.j) l.j l.r _ _ l.value-1 l.value0 c.factor-r.ensures c.lg.ensures _ c.stops.ensures c.if-stops.false ∙ rw h at l.invariant.1), rw (add-one l.j) (bessel_on_lem a.df.now a.dj.now a.m a.ip a.half (a.nm - suc l.j) l.j l.r _ _ l.derivative-1 l.derivative0 c.factor-r.ensures c.lg.ensures _ c.stops-in-loop-j.ensures c.if-stops-3.false ∙ rw h at l.invariant.2))
+    (omega arith, rw (add-one l.j) (bessel_on_lem a.df.now a.sj.now a.m a.ip a.half (a.nm - suc l.j) l.j l.r _ _ l.value l.value0 c.factor-r.ensures c.lg.ensures _ c.stops.ensures c.if-stops.false ∙ rw h at l.invariant.1), rw (add-one l.j) (bessel_on_lem a.df.now a.dj.now a.m a.ip a.half (a.nm - suc l.j) l.j l.r _ _ l.derivative l.derivative0 c.factor-r.ensures c.lg.ensures _ c.stops-in-loop-j.ensures c.if-stops-3.false ∙ rw h at l.invariant.2))
 
 pub returns : goal.returns
 unfolding bessel_on

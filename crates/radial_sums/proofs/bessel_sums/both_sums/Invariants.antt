@@ -11,7 +11,7 @@ use Rattle.radial_sums.proofs.bessel_sums.both_sums.Given as goal
 
 abbrev pub invariant-loop-j : goal.invariant-loop-j
 invariant-loop-j l =
-    (l.j ≤ l.nm) × (sum_from l.df l.sj l.m l.ip l.half l.nm l.j l.r l.value-1 l.value0 ≡ bessel_sum l.df l.sj l.m l.ip l.half l.nm l.r0) × (sum_from l.df l.dj l.m l.ip l.half l.nm l.j l.r l.derivative-1 l.derivative0 ≡ bessel_sum l.df l.dj l.m l.ip l.half l.nm l.r0)
+    (l.j ≤ l.nm) × (sum_from l.df l.sj l.m l.ip l.half l.nm l.j l.r l.value l.value0 ≡ bessel_sum l.df l.sj l.m l.ip l.half l.nm l.r0) × (sum_from l.df l.dj l.m l.ip l.half l.nm l.j l.r l.derivative l.derivative0 ≡ bessel_sum l.df l.dj l.m l.ip l.half l.nm l.r0)
 
 abbrev pub decreases-loop-j : goal.decreases-loop-j
 decreases-loop-j l =

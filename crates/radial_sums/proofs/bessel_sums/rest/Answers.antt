@@ -16,14 +16,14 @@ returns-then-stops c =
     let a = c.args in
     let l = c.loop-j in
     let h : a.nm - l.j ≡ suc (a.nm - suc l.j) = omega arith in
-    bessel_stop _ _ a.m a.ip a.half (a.nm - suc l.j) l.j l.r _ _ l.sum-1 l.sw c.factor-r.ensures c.lg.ensures _ c.stops.ensures c.if-stops.true ∙ rw h at l.invariant.1
+    bessel_stop _ _ a.m a.ip a.half (a.nm - suc l.j) l.j l.r _ _ l.sum l.sw c.factor-r.ensures c.lg.ensures _ c.stops.ensures c.if-stops.true ∙ rw h at l.invariant.1
 
 pub loop-j-preserved : goal.loop-j-preserved
 loop-j-preserved c =
     let a = c.args in
     let l = c.loop-j in
     let h : a.nm - l.j ≡ suc (a.nm - suc l.j) = omega arith in
-    (omega arith, rw (add-one l.j) (bessel_on_lem _ _ a.m a.ip a.half (a.nm - suc l.j) l.j l.r _ _ l.sum-1 l.sw c.factor-r.ensures c.lg.ensures _ c.stops.ensures c.if-stops.false ∙ rw h at l.invariant.1))
+    (omega arith, rw (add-one l.j) (bessel_on_lem _ _ a.m a.ip a.half (a.nm - suc l.j) l.j l.r _ _ l.sum l.sw c.factor-r.ensures c.lg.ensures _ c.stops.ensures c.if-stops.false ∙ rw h at l.invariant.1))
 
 pub returns : goal.returns
 unfolding bessel_on

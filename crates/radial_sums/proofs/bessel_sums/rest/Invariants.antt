@@ -9,7 +9,7 @@ use borrow.Author.Rules.{rules}
 use Rattle.radial_sums.proofs.bessel_sums.rest.Given as goal
 
 abbrev pub invariant-loop-j : goal.invariant-loop-j
-invariant-loop-j l = (l.j ≤ l.nm) × (sum_from l.df l.bs l.m l.ip l.half l.nm l.j l.r l.sum-1 l.sw ≡ sum_from l.df l.bs l.m l.ip l.half l.nm l.j0 l.r0 l.s0 l.s0)
+invariant-loop-j l = (l.j ≤ l.nm) × (sum_from l.df l.bs l.m l.ip l.half l.nm l.j l.r l.sum l.sw ≡ sum_from l.df l.bs l.m l.ip l.half l.nm l.j0 l.r0 l.s0 l.s0)
 
 abbrev pub decreases-loop-j : goal.decreases-loop-j
 decreases-loop-j l = l.nm - l.j

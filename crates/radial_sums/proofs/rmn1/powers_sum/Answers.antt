@@ -17,14 +17,14 @@ returns-then-settled c =
     let a = c.args in
     let l = c.loop-j in
     let h : a.nm - l.j ≡ suc (a.nm - suc l.j) = omega arith in
-    powers_stop _ (a.nm - suc l.j) l.j l.sum-1 l.sw (sym c.settled.ensures ∙ c.if-settled.true) ∙ rw h at l.invariant.1
+    powers_stop _ (a.nm - suc l.j) l.j l.sum l.sw (sym c.settled.ensures ∙ c.if-settled.true) ∙ rw h at l.invariant.1
 
 pub loop-j-preserved : goal.loop-j-preserved
 loop-j-preserved c =
     let a = c.args in
     let l = c.loop-j in
     let h : a.nm - l.j ≡ suc (a.nm - suc l.j) = omega arith in
-    (omega arith, rw (add-one l.j) (powers_on_lem _ (a.nm - suc l.j) l.j l.sum-1 l.sw (sym c.settled.ensures ∙ c.if-settled.false) ∙ rw h at l.invariant.1))
+    (omega arith, rw (add-one l.j) (powers_on_lem _ (a.nm - suc l.j) l.j l.sum l.sw (sym c.settled.ensures ∙ c.if-settled.false) ∙ rw h at l.invariant.1))
 
 pub returns : goal.returns
 unfolding powers_on

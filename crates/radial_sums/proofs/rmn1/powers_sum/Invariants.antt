@@ -10,7 +10,7 @@ use Rattle.radial_sums.proofs.Laws.{powers_stop, powers_on_lem}
 use Rattle.radial_sums.proofs.rmn1.powers_sum.Given as goal
 
 abbrev pub invariant-loop-j : goal.invariant-loop-j
-invariant-loop-j l = (l.j ≤ l.nm) × (powers_on l.ck (l.nm - l.j) l.j l.sum-1 l.sw ≡ powers_sum l.ck l.nm)
+invariant-loop-j l = (l.j ≤ l.nm) × (powers_on l.ck (l.nm - l.j) l.j l.sum l.sw ≡ powers_sum l.ck l.nm)
 
 abbrev pub decreases-loop-j : goal.decreases-loop-j
 decreases-loop-j l = l.nm - l.j

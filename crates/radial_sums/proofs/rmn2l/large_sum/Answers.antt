@@ -17,14 +17,14 @@ returns-then-stops c =
     let a = c.args in
     let l = c.loop-j in
     let h : a.nm - l.j ≡ suc (a.nm - suc l.j) = omega arith in
-    large_stop _ _ a.m a.ip a.half (a.nm - suc l.j) l.j l.r _ _ l.sum-1 l.sw l.eps _ l.np c.factor-r.ensures c.lg.ensures c.abs-eps.ensures _ c.stops.ensures c.if-stops.true ∙ rw h at l.invariant.1
+    large_stop _ _ a.m a.ip a.half (a.nm - suc l.j) l.j l.r _ _ l.sum l.sw l.eps _ l.np c.factor-r.ensures c.lg.ensures c.abs-eps.ensures _ c.stops.ensures c.if-stops.true ∙ rw h at l.invariant.1
 
 pub loop-j-preserved : goal.loop-j-preserved
 loop-j-preserved c =
     let a = c.args in
     let l = c.loop-j in
     let h : a.nm - l.j ≡ suc (a.nm - suc l.j) = omega arith in
-    (omega arith, rw (add-one l.j) (large_on_lem _ _ a.m a.ip a.half (a.nm - suc l.j) l.j l.r _ _ l.sum-1 l.sw l.eps _ l.np c.factor-r.ensures c.lg.ensures c.abs-eps.ensures _ c.stops.ensures c.if-stops.false ∙ rw h at l.invariant.1))
+    (omega arith, rw (add-one l.j) (large_on_lem _ _ a.m a.ip a.half (a.nm - suc l.j) l.j l.r _ _ l.sum l.sw l.eps _ l.np c.factor-r.ensures c.lg.ensures c.abs-eps.ensures _ c.stops.ensures c.if-stops.false ∙ rw h at l.invariant.1))
 
 pub returns : goal.returns
 unfolding large_on

@@ -10,7 +10,7 @@ use borrow.Author.Rules.{rules}
 use Rattle.radial_sums.proofs.rmn2l.large_sum.Given as goal
 
 abbrev pub invariant-loop-j : goal.invariant-loop-j
-invariant-loop-j l = (l.j ≤ l.nm) × (large_on l.df l.bs l.m l.ip l.half (l.nm - l.j) l.j l.r l.sum-1 l.sw l.eps l.np ≡ large_sum l.df l.bs l.m l.ip l.half l.nm l.r0 l.sw0)
+invariant-loop-j l = (l.j ≤ l.nm) × (large_on l.df l.bs l.m l.ip l.half (l.nm - l.j) l.j l.r l.sum l.sw l.eps l.np ≡ large_sum l.df l.bs l.m l.ip l.half l.nm l.r0 l.sw0)
 
 abbrev pub decreases-loop-j : goal.decreases-loop-j
 decreases-loop-j l = l.nm - l.j

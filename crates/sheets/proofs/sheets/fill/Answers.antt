@@ -59,7 +59,7 @@ aswfa_each-requires c =
     let l = c.loop-i in
     let p = laws.passed a.m a.n _ _ _ c.requires in
     let room = laws.room_for l.i _ _ _ (omega arith) p.room in
-    let part = laws.part_length l.block-1 l.from in (
+    let part = laws.part_length l.block l.from in (
       usable (mode_with a.m a.n (at a.cs.now l.i)) (laws.all_pass (λ c. mode_refusal (mode_with a.m a.n c)) _ p.parameters l.i (omega arith)),
       omega (arith, p.short),
       omega (arith, part, l.invariant.1, l.invariant.2),
@@ -80,16 +80,16 @@ loop-i-preserved c =
     let l = c.loop-i in
     let kd = c.sign-kd.result in
     let width = 2 * length a.xs.now in
-    let k = length l.block-1 - l.from in
-    let put : List Float → List Float = λ (ys : List Float). take l.from l.block-1 ++ (ys ++ drop k (drop l.from l.block-1)) in (
+    let k = length l.block - l.from in
+    let put : List Float → List Float = λ (ys : List Float). take l.from l.block ++ (ys ++ drop k (drop l.from l.block)) in (
       omega arith,
       laws.next_place l.i width l.from l.invariant.1,
       c.block-1.given.1 ∙ l.invariant.2,
       λ (cv : Float → Float) (h : (j : ℕ) → j < length a.cs.now → at a.cvs.now j ≡ cv (at a.cs.now j)).
           let row = row_of_pairs a.m a.n kd a.xs.now cv in
           let far : length (each row (take l.i a.cs.now)) ≡ l.from = laws.each_length row width (λ (y : Float). in_turn_length (aswfa a.m a.n y (cv y) kd) a.xs.now) (take l.i a.cs.now) ∙ rw (length-take-le l.i a.cs.now (omega arith)) (sym l.invariant.1) in
-          ap put (c.aswfa_each.ensures ∙ ap (λ (v : Float). in_turn (aswfa a.m a.n (at a.cs.now l.i) v kd) a.xs.now ++ drop width (take k (drop l.from l.block-1))) (h l.i (omega arith)))
-          ∙ laws.each_put row a.cs.now a.block-1.now l.block-1 l.i width l.from k (omega arith) (sym far) refl (l.invariant.3 cv h),
+          ap put (c.aswfa_each.ensures ∙ ap (λ (v : Float). in_turn (aswfa a.m a.n (at a.cs.now l.i) v kd) a.xs.now ++ drop width (take k (drop l.from l.block))) (h l.i (omega arith)))
+          ∙ laws.each_put row a.cs.now a.block.now l.block l.i width l.from k (omega arith) (sym far) refl (l.invariant.3 cv h),
     )
 
 pub returns : goal.returns

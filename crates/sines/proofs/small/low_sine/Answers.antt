@@ -9,6 +9,7 @@ use Rattle.circle.specs.Inside.Fixed.{IsHigh}
 use Rattle.sines.specs.Inside.SmallValues as SmallValues
 use Rattle.sines.proofs.small.Low.{sine_low, narrower}
 use Rattle.sines.proofs.small.low_sine.Goals as goal
+use Rattle.sines.proofs.small.low_sine.Goals.{After-high}
 
 under : (m : ℕ) → m ≤ 2 ^ 63 - 2 ^ 10 → m < 2 ^ 63
 under m h = omega arith
@@ -29,7 +30,7 @@ wide m h = omega arith
 wide_too : (g : ℕ) → g ≤ 2 ^ 63 → g ≤ 5 * 2 ^ 61
 wide_too g h = omega arith
 
-topped : (c : goal.After-high) → c.high.result ≤ 2 ^ 63 - 2 ^ 10
+topped : (c : After-high) → c.high.result ≤ 2 ^ 63 - 2 ^ 10
 topped c = top c.split-p.result.m c.odd_sum-g.result c.high.result c.split-p.ensures.split.most c.odd_sum-g.ensures.alternating.most c.high.ensures.high
 
 pub own_square-requires : goal.own_square-requires

@@ -18,7 +18,7 @@ use Rattle.stream.proofs.stream.answer_some.Given as goal
 
 abbrev pub invariant-loop-out : goal.invariant-loop-out
 invariant-loop-out l =
-    (length l.out-1 ≡ length l.initial.out) × (l.used ≤ length l.initial.out) × (l.index + l.from ≤ l.first + l.at) × reached.Reached l.input l.from l.first l.initial.out l.out-1 l.at l.index l.used
+    (length l.out ≡ length l.initial.out) × (l.used ≤ length l.initial.out) × (l.index + l.from ≤ l.first + l.at) × reached.Reached l.input l.from l.first l.initial.out l.out l.at l.index l.used
 
 abbrev pub decreases-loop-out : goal.decreases-loop-out
 decreases-loop-out l = length l.input - l.at
