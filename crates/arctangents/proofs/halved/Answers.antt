@@ -8,6 +8,7 @@ use Rattle.arctangents.proofs.Sides.{stated, above_is, below_is}
 use Rattle.arctangents.proofs.Upto.{good_of}
 use Rattle.arctangents.proofs.Distinct.{distinct}
 use Rattle.arctangents.proofs.halved.Goals as goal
+use Rattle.arctangents.proofs.halved.Goals.{Start}
 
 record Middle (low up mid : ℕ) : Type 0 where
   over : low < mid
@@ -33,7 +34,7 @@ word y h = omega arith
 below_it : (low up : ℕ) → low + 0x3ffc0 < up → low ≤ up
 below_it low up h = omega arith
 
-mid_of : (c : goal.Start) → Middle c.args.low c.args.up (c.args.low + (c.args.up - c.args.low) / 2)
+mid_of : (c : Start) → Middle c.args.low c.args.up (c.args.low + (c.args.up - c.args.low) / 2)
 mid_of c = middle c.args.low c.args.up c.requires.0 c.requires.1
 
 closer_up : (low up mid : ℕ) → Middle low up mid → mid - low < up - low

@@ -10,8 +10,9 @@ use lib.Ieee.Positive.{value→cross}
 use Rattle.arith.proofs.Laws.{number_above_zero, bits_above_zero, bits_below_infinity}
 use Rattle.circle.specs.Inside.FixedValues.{unpacked}
 use Rattle.circle.proofs.fixed.unpack.Goals as goal
+use Rattle.circle.proofs.fixed.unpack.Goals.{Start}
 
-held : (c : goal.Start) → T (fits binary64 c.args.x)
+held : (c : Start) → T (fits binary64 c.args.x)
 held c = subst T (sym c.well_formed.0.1) tt
 
 pub float_to_bits-x : goal.float_to_bits-x

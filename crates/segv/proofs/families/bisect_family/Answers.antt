@@ -1,0 +1,40 @@
+-- `segv::families::bisect_family` meets its contract. The invariant: the places that are left give the whole family. Assumes nothing.
+use Prim.Native.Nat.{◌-◌, ◌+◌}
+use mathlib.Core.Path.{◌≡◌, refl, sym, ◌∙◌}
+use native.Mathlib.Omega.{arith}
+use Rattle.segv.specs.Families.{family_from, opened_at}
+use Rattle.segv.specs.Inside.Arrays.{ends}
+use Rattle.segv.proofs.Laws as laws
+use borrow.Author.Rules.{rules}
+use Rattle.segv.proofs.families.bisect_family.Goals as goal
+
+pub loop-p-init : goal.loop-p-init
+loop-p-init c = refl
+
+pub bisect-found-requires : goal.bisect-found-requires
+unfolding opened_at
+bisect-found-requires c = (search rules, search rules, search rules, search rules, rw c.opened-start.ensures)
+
+pub returns-in_default : goal.returns-in_default
+returns-in_default c =
+    let l = c.loop-p in
+    let a = c.args in
+    let b = c.bisect-found in
+    let m = laws.one_out_of_steps _ _ _ _ _ (a.places - l.p) (a.places - (l.p + 1)) _ _ _ _ l.out _ (omega arith) c.opened-start.ensures b.ensures c.enum_told-1.given.1 in
+    let s = c.before in
+    sym m ∙ l.invariant ∙ laws.from_first _ _ _ _ _ _ _ _ _ s.hundred-uppers.ensures s.hundred-lowers.ensures s.blank_brackets-out.ensures
+
+pub loop-p-preserved : goal.loop-p-preserved
+loop-p-preserved c =
+    let l = c.loop-p in
+    let a = c.args in
+    let b = c.bisect-found in
+    let m = laws.one_found _ _ _ _ _ (a.places - l.p) (a.places - (l.p + 1)) _ _ _ _ l.out _ _ (omega arith) c.opened-start.ensures b.ensures c.found-1.given.1 in
+    sym m ∙ l.invariant
+
+pub returns : goal.returns
+returns c =
+    let l = c.loop-p in
+    let s = c.before in
+    let e : s.args.places - l.p ≡ 0 = omega arith in
+    sym (rw e (laws.all_found _ _ _ _ _ _ _ _)) ∙ l.invariant ∙ laws.from_first _ _ _ _ _ _ _ _ _ s.hundred-uppers.ensures s.hundred-lowers.ensures s.blank_brackets-out.ensures
