@@ -1,7 +1,7 @@
 -- A double in units of 2 ^ -1074; of two doubles with one sign and one size, that they are the same; and what follows of a product with 1 or −1: it is exact. Assumes nothing.
 use Rattle.std.proofs.Common.{◌≡◌, ℕ, zero, suc, ◌+◌, ◌-◌, ◌*◌, ◌/◌, ◌%◌, ◌^◌, ◌<◌, ◌≤◌, Bool, true, false, cond, not, ◌&&◌, T, eqb, ltb, leb, ℤ, pos, negsuc, sym, refl, ap, ◌∙◌, subst, le_of_eq, lt_of_lt_of_le, lt_of_le_of_lt, lt_irrefl, mul_assoc, lt_of_mul-lt-mul_right, mul-lt-mul_of_pos_right, mul-pos, zero-mul, mul-one, mul_right_comm, arith, ltb→lt, leb→le, pow_pos, pow-add}
 use lib.Pow.{pow-lt}
-use lib.Ieee.{Float, nan, inf, fin, binary64, unlike, up, down, size, round, add, sub, mul, neg, to_bits, of_bits, fits}
+use lib.Ieee.{Float, nan, inf, fin, binary64, unlike, up, down, size, round, sub, mul, neg, to_bits, of_bits, fits}
 use lib.Ieee.Bits.{of_bits-to_bits}
 use lib.Ieee.Exact.{HasValue, round_exact}
 use lib.Ieee.Fits.{and_l, and_r, down_pos, round-fits, neg-fits}

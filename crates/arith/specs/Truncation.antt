@@ -6,6 +6,6 @@ use Rattle.std.specs.Float.Ieee.{to_signed, to_unsigned}
 abbrev pub truncate : Float → ℤ
 truncate x = to_signed 31 x
 
--- x truncated, as a natural number, where x is not below zero (`truncate-whole` in `proofs/Laws.antt`), and else 0
+-- x truncated, as a natural number, where x is not below zero (`truncate_whole` in `proofs/Laws.antt`), and else 0
 abbrev pub whole_part : Float → ℕ
 whole_part x = to_unsigned 31 x

@@ -1,5 +1,5 @@
 -- `sqrt` gives the nearest double: of any two finite doubles the exact root of x lies on the side of `sqrt x`. Assumes nothing.
-use Rattle.std.proofs.Common.{◌≡◌, ℕ, zero, suc, ◌+◌, ◌-◌, ◌*◌, ◌/◌, ◌%◌, ◌^◌, ◌<◌, ◌≤◌, true, false, T, ℤ, pos, sym, ap, ◌∙◌, subst, le_trans, le_of_eq, le_refl, lt_of_lt_of_le, lt_of_le_of_lt, le_of_lt, mul-le-mul_right, mul_assoc, mul_comm, add-mul, mul-le-mul, lt_of_mul-lt-mul_right, mul-lt-mul_of_pos_right, mul-pos, lt_of_not-le, mul-one, mul_right_comm, not-le_of_lt, div-one, arith, ltb→lt, pow_pos, pow_mono, pow-add}
+use Rattle.std.proofs.Common.{◌≡◌, ℕ, suc, ◌+◌, ◌-◌, ◌*◌, ◌/◌, ◌%◌, ◌^◌, ◌<◌, ◌≤◌, true, false, T, ℤ, pos, sym, ap, ◌∙◌, subst, le_trans, le_of_eq, le_refl, lt_of_lt_of_le, lt_of_le_of_lt, le_of_lt, mul-le-mul_right, mul_assoc, mul_comm, add-mul, mul-le-mul, lt_of_mul-lt-mul_right, mul-lt-mul_of_pos_right, mul-pos, lt_of_not-le, mul-one, mul_right_comm, not-le_of_lt, div-one, arith, ltb→lt, pow_pos, pow_mono, pow-add}
 use Prim.Native.Nat.{compare, Ordering}
 use native.Mathlib.Nat.{mul-mul-mul_comm, pow-succ'}
 use native.Mathlib.Decide.{dec_le}
@@ -51,7 +51,7 @@ module _ (r k m j : ℕ) (least : 2 ^ 52 ≤ r) (few : m < 2 ^ 53) where
       go (yes l) = le_trans (le_of_eq (coarser l)) (mul-le-mul_right (2 ^ k) (down_one (m * 2 ^ (j - k)) (lt_of_mul-lt-mul_right (2 ^ k) (subst (λ (x : ℕ). x < r * 2 ^ k) (coarser l) h))))
       go (no f) = le_trans (le_of_lt (finer (lt_of_not-le f))) (mul-le-mul_right (2 ^ k) b)
 
--- ---- `nearestRoot` of a whole number: the root is less than a half away
+-- ---- `nearest_root` of a whole number: the root is less than a half away
 module _ (a : ℕ) (some : 0 < a) where
   abbrev q : ℕ
   q = floor_root a

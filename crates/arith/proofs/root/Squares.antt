@@ -1,4 +1,4 @@
--- Whole numbers and their squares: what `floorRoot` and `nearestRoot` are. Nothing here is about floats. Assumes nothing.
+-- Whole numbers and their squares: what `floor_root` and `nearest_root` are. Nothing here is about floats. Assumes nothing.
 use Rattle.std.proofs.Common.{◌≡◌, ℕ, zero, suc, ◌+◌, ◌-◌, ◌*◌, ◌/◌, ◌^◌, ◌<◌, ◌≤◌, Bool, true, false, cond, not, T, eqb, leb, sym, refl, ap, ◌∙◌, subst, le_trans, le_of_eq, lt_of_lt_of_le, le_of_suc-le-suc, lt_of_le_of_lt, le_of_lt, mul-le-mul_right, suc-mul, mul-le-mul, le_antisymm, pow-suc, lt_of_not-le, mul-one, mul-suc, mul_right_comm, not-le_of_lt, le_of_mul-le-mul_right, div-one, add-one, arith, eqb→eq, leb→le, pow_mono, pow-add}
 use Prim.Native.Nat.{compare, Ordering}
 use native.Mathlib.Nat.{mul-mul-mul_comm}
@@ -40,7 +40,7 @@ sq_lt_back r s h = lt_of_not-le (λ (g : s ≤ r). not-le_of_lt h (sq_le g))
 pub root_unique : (n r s : ℕ) → IsRoot n r → IsRoot n s → r ≡ s
 root_unique n r s (a, b) (c, d) = le_antisymm (le_of_suc-le-suc (sq_lt_back r (suc s) (lt_of_le_of_lt a d))) (le_of_suc-le-suc (sq_lt_back s (suc r) (lt_of_le_of_lt c b)))
 
--- ---- `floorRoot` is the whole part of the root
+-- ---- `floor_root` is the whole part of the root
 extend_is : (n r : ℕ) → IsRoot (n / 4) r → IsRoot n (extend n (2 * r))
 extend_is n r (a, b) = go (leb (suc (2 * r) * suc (2 * r)) n) (leb→le (suc (2 * r) * suc (2 * r)) n) (nleb→lt (suc (2 * r) * suc (2 * r)) n)
   where
@@ -141,7 +141,7 @@ compare_gt a b h = go (compare a b) (compared a b)
     go Ordering.eq k = clash b a h (le_of_eq k)
     go Ordering.gt k = refl
 
--- ---- `nearestRoot` sees only the value of its fraction
+-- ---- `nearest_root` sees only the value of its fraction
 nearest_root_at : (a b q : ℕ) → floor_root (a / b) ≡ q → nearest_root a b ≡ nearest q (compare (a * 4) ((2 * q + 1) * (2 * q + 1) * b))
 unfolding nearest_root
 nearest_root_at a b q e = ap (λ (q : ℕ). nearest q (compare (a * 4) ((2 * q + 1) * (2 * q + 1) * b))) e
@@ -158,7 +158,7 @@ nearest_root_same a b c d B D e =
     ∙ compare_times (c * 4) (h * d) b B)
     ∙ sym (nearest_root_at c d q refl)
 
--- ---- `nearestRoot` of a whole number, from its root's whole part q and what the square of that leaves
+-- ---- `nearest_root` of a whole number, from its root's whole part q and what the square of that leaves
 module _ (n q l : ℕ) (e : q * q + l ≡ n) (h : l ≤ 2 * q) where
   pub left_root : IsRoot n q
   left_root = (low (q * q) e, lt_of_lt_of_le (high (q * q) e) (le_of_eq (sym (sq_suc q))))
@@ -187,7 +187,7 @@ module _ (n q l : ℕ) (e : q * q + l ≡ n) (h : l ≤ 2 * q) where
       above : (s : ℕ) → s + l ≡ n → 4 * s + 4 * q + 1 < n * 4
       above s e = omega arith
 
--- ---- `nearestRoot` of a whole number n, from any q whose square is nearly n: q * q is n + s - l
+-- ---- `nearest_root` of a whole number n, from any q whose square is nearly n: q * q is n + s - l
 module _ (n q l s : ℕ) (e : q * q + l ≡ n + s) (small : s < q) (h : l ≤ 2 * q) where
   pub about_up : q + s < l → nearest_root n 1 ≡ q + 1
   about_up k = near_up n q (l - s) (more (q * q) e) (omega arith) (omega arith)

@@ -1,5 +1,5 @@
 -- `arith::pattern::from_bits` meets its contract: past the infinity's pattern, the sign aside, are the NaNs'. Assumes nothing.
-use Rattle.std.proofs.Common.{◌≡◌, ◌*◌, ◌%◌, ◌^◌, Bool, true, not, T, sym, refl, ◌∙◌, subst, arith, rules, le-ltb, lt-ltb}
+use Rattle.std.proofs.Common.{◌≡◌, ◌*◌, ◌%◌, ◌^◌, Bool, true, not, T, sym, refl, ◌∙◌, subst, arith, le-ltb, lt-ltb}
 use lib.Ieee.{Float, nan, inf, fin, binary64, div, is_nan, of_bits}
 use lib.Ieee.Bits.{nan_bits_is, nan_bits_above}
 use Rattle.arith.specs.Double.{◌⊘◌, bits, #0}

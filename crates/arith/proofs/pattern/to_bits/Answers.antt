@@ -1,5 +1,5 @@
 -- `arith::pattern::to_bits` meets its contract. Assumes nothing.
-use Rattle.std.proofs.Common.{sym, ap, rules}
+use Rattle.std.proofs.Common.{sym, ap}
 use lib.Ieee.{to_bits}
 use Rattle.arith.specs.Double.{bits_of}
 use Rattle.arith.proofs.Numbers.{a_number, no_number}

@@ -1,5 +1,4 @@
 -- `arith::powers::half_power` meets its contract. Assumes nothing.
-use Rattle.std.proofs.Common.{rules}
 use Rattle.arith.proofs.powers.half_power.Goals as goal
 
 pub returns : goal.returns

@@ -1,5 +1,5 @@
--- `arith::powers::power` meets its contract. The loop's invariant: p is the power to the number of turns so far. Assumes nothing.
-use Rattle.std.proofs.Common.{◌≡◌, ◌-◌, ◌≤◌, sym, refl, ap, ◌∙◌, le_antisymm, add-one, arith}
+-- `arith::powers::power` meets its contract. Assumes nothing.
+use Rattle.std.proofs.Common.{sym, refl, ap, ◌∙◌, le_antisymm, add-one, arith}
 use lib.Ieee.{Float, binary64, mul, of_bits}
 use Rattle.arith.specs.Powers.{power}
 use Rattle.arith.proofs.powers.power.Goals as goal

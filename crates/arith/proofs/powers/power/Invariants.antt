@@ -1,6 +1,5 @@
--- `arith::powers::power` meets its contract. The loop's invariant: p is the power to the number of turns so far. Assumes nothing.
-use Rattle.std.proofs.Common.{◌≡◌, ◌-◌, ◌≤◌, sym, refl, ap, ◌∙◌, le_antisymm, add-one, arith}
-use lib.Ieee.{Float, binary64, mul, of_bits}
+-- The loop of `arith::powers::power`: p is the power to the number of turns so far.
+use Rattle.std.proofs.Common.{◌≡◌, ◌-◌, ◌≤◌}
 use Rattle.arith.specs.Powers.{power}
 use Rattle.arith.proofs.powers.power.Given as goal
 

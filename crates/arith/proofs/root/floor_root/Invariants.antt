@@ -1,8 +1,5 @@
--- `arith::root::floor_root` meets its contract. The loop's invariant: n is below the square of g + 1, and g is small enough for its square to fit.
--- The measure is g (`proofs/root/Newton.antt`). Assumes nothing.
-use Rattle.std.proofs.Common.{suc, ◌*◌, ◌/◌, ◌^◌, ◌<◌, sym, le_of_lt, mul-le-mul, arith, rules}
-use Rattle.arith.proofs.root.Squares.{floor_root_unique}
-use Rattle.arith.proofs.root.Newton.{newton_above, sq_pos, quotient_lt, first_quotient_lt}
+-- The loop of `arith::root::floor_root`: n is below the square of g + 1, and g is small enough for its square to fit. The measure is g.
+use Rattle.std.proofs.Common.{suc, ◌*◌, ◌^◌, ◌<◌}
 use Rattle.arith.proofs.root.floor_root.Given as goal
 
 abbrev pub invariant-loop-g : goal.invariant-loop-g

@@ -1,5 +1,5 @@
 -- `arith::root::nearest_root` meets its contract (`proofs/root/Newton.antt`, the halves of a root). Assumes nothing.
-use Rattle.std.proofs.Common.{ℕ, ◌+◌, ◌-◌, ◌*◌, ◌/◌, ◌%◌, ◌^◌, ◌≤◌, sym, arith, rules}
+use Rattle.std.proofs.Common.{ℕ, ◌+◌, ◌-◌, ◌*◌, ◌/◌, ◌%◌, ◌^◌, ◌≤◌, sym, arith}
 use Rattle.arith.proofs.root.Squares.{IsRoot, floor_root_is, about_up, about_down}
 use Rattle.arith.proofs.root.Newton.{Halved, halved, halves, low_small}
 use Rattle.arith.proofs.root.nearest_root.Goals as goal

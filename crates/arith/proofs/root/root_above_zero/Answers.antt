@@ -1,5 +1,5 @@
 -- `arith::root::root_above_zero` meets its contract: `proofs/root/Pack.antt` for the bits of x, and `proofs/root/Radicand.antt` for the result. Assumes nothing.
-use Rattle.std.proofs.Common.{◌≡◌, ℕ, ◌+◌, ◌-◌, ◌*◌, ◌/◌, ◌^◌, ◌<◌, ◌≤◌, T, sym, ap, ◌∙◌, subst, arith, rules}
+use Rattle.std.proofs.Common.{◌≡◌, ℕ, ◌+◌, ◌-◌, ◌*◌, ◌/◌, ◌^◌, ◌<◌, ◌≤◌, T, sym, ap, ◌∙◌, subst, arith}
 use lib.Ieee.{binary64, fits, of_bits}
 use Rattle.arith.specs.Root.{nearest_root}
 use Rattle.arith.proofs.root.Cases.{positive_number}
@@ -21,7 +21,7 @@ most : (c : After-nearest_root-r) → c.nearest_root-r.result ≤ 2 ^ 53
 most c =
     let s = c.scale-s in
     let a = c.before in
-    rw (is c) (result_le a.args.x (held a) a.requires s.result.m s.result.e s.ensures.scaled)
+    rw (is c) (result_le a.args.x (held a.before) a.requires s.result.m s.result.e s.ensures.scaled)
 
 pattern_lt : (c : After-nearest_root-r) → (c.scale-s.result.e - 52) / 2 * 2 ^ 52 + c.nearest_root-r.result < 2047 * 2 ^ 52
 pattern_lt c = omega (arith, most c, c.scale-s.ensures.scaled.upto)
@@ -48,4 +48,4 @@ returns c =
     let s = c.scale-s in
     let a = c.before in
     ap (λ (r : ℕ). of_bits binary64 ((s.result.e - 52) / 2 * 2 ^ 52 + r)) (is c)
-    ∙ result_is a.args.x (held a) a.requires s.result.m s.result.e s.ensures.scaled
+    ∙ result_is a.args.x (held a.before) a.requires s.result.m s.result.e s.ensures.scaled

@@ -1,5 +1,5 @@
 -- `arith::root::scale` meets its contract (`proofs/root/Unpack.antt`). Assumes nothing.
-use Rattle.std.proofs.Common.{◌≡◌, ◌-◌, ◌^◌, ◌<◌, ◌∙◌, mod-eq_of_lt, arith, rules, eq-eqb, ne_eqb}
+use Rattle.std.proofs.Common.{◌≡◌, ◌-◌, ◌^◌, ◌<◌, ◌∙◌, mod-eq_of_lt, arith, eq-eqb, ne_eqb}
 use lib.Bits.{bit_and}
 use lib.Count.{count_leading_zeros, leading_le}
 use Rattle.arith.specs.Inside.Scaled.{scaled}

@@ -1,6 +1,5 @@
 -- `arith::root::sqrt` meets its contract. The tests find which clause of `sqrt` applies (`proofs/root/Cases.antt`). Assumes nothing.
 use lib.Ieee.{of_bits, div}
-use Rattle.std.proofs.Common.{rules}
 use Rattle.arith.proofs.root.Cases.{finite_above_zero, sqrt_infinite, sqrt_below_zero, sqrt_else}
 use Rattle.arith.proofs.root.sqrt.Goals as goal
 

@@ -16,17 +16,19 @@ small : (c : After-truncating_f64_to_i64) → SFits w32 c.truncating_f64_to_i64.
 small c = record { sfits = rw (is c) (to_signed_in 31 c.args.x) }
 
 wide : (c : After-truncating_f64_to_i64) → to_z w64 (of_z w64 c.truncating_f64_to_i64.result) ≡ c.truncating_f64_to_i64.result
-wide c = to_z-of_z (record { sfits = rw c.truncating_f64_to_i64.ensures (to_signed_in 63 c.args.x) })
+wide c = to_z-of_z {w = w64} (record { sfits = rw c.truncating_f64_to_i64.ensures (to_signed_in 63 c.args.x) })
 
 pub truncating_f64_to_i64-requires : goal.truncating_f64_to_i64-requires
 unfolding of_bits neg
-truncating_f64_to_i64-requires c = in_wider c.args.x c.if-x.true c.if-x-2.true
+truncating_f64_to_i64-requires c =
+    let within = in_wider c.args.x c.if-x.true c.if-x-2.true in
+    record { lower_bound = within.0; upper_bound = within.1 }
 
 pub overflow_cast-result : goal.overflow_cast-result
 overflow_cast-result c = rw (wide c) (small c)
 
 pub returns-then-x-2 : goal.returns-then-x-2
-returns-then-x-2 c = rw (wide c) (to_z-of_z (small c) ∙ is c)
+returns-then-x-2 c = rw (wide c) (to_z-of_z {w = w32} (small c) ∙ is c)
 
 pub returns-else-x-2 : goal.returns-else-x-2
 unfolding of_bits neg

@@ -1,5 +1,5 @@
 -- `arith::truncation::whole_part` meets its contract: what is not below zero truncates to a whole number, which the machine reads back from 32 bits. Assumes nothing.
-use Rattle.std.proofs.Common.{◌≡◌, pos, nat_abs, ap, ◌∙◌, arith, to_z-of_z, w32, to_z, of_z, rules}
+use Rattle.std.proofs.Common.{◌≡◌, pos, nat_abs, ap, ◌∙◌, arith, to_z-of_z, w32, to_z, of_z}
 use lib.Ieee.{of_bits}
 use lib.Ieee.Casts.{to_signed_in, to_unsigned-lt}
 use Rattle.arith.specs.Truncation.{whole_part}
@@ -12,7 +12,7 @@ is : (c : After-truncate) → to_z w32 (of_z w32 c.truncate.result) ≡ pos (who
 unfolding of_bits
 is c =
     let x = c.args.x in
-    to_z-of_z (record { sfits = rw c.truncate.ensures (to_signed_in 31 x) }) ∙ c.truncate.ensures ∙ truncate_whole x c.if-x.false
+    to_z-of_z {w = w32} (record { sfits = rw c.truncate.ensures (to_signed_in 31 x) }) ∙ c.truncate.ensures ∙ truncate_whole x c.if-x.false
 
 pub returns-then-x : goal.returns-then-x
 unfolding of_bits
