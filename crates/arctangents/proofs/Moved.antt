@@ -4,7 +4,7 @@ use Prim.Native.Nat.{ℕ, ◌+◌, ◌-◌, ◌*◌, ◌^◌, ◌≤◌, ◌<◌
 use native.Mathlib.Nat.{le_trans, le_of_eq, le_refl, mul-add, mul_comm, mul_assoc, mul_left_comm, mul-le-mul_left, mul-pos, one-mul, pow-zero}
 use native.Mathlib.Omega.{arith}
 use lib.Pow.{pow_pos}
-use Rattle.circle.specs.Series.{Quarter, east, north, west, south, at, part}
+use Rattle.circle.specs.Series.{Quarter, east, north, west, south, part}
 use Rattle.circle.specs.Inside.Circle.{mix}
 use Rattle.circle.specs.Series.{falling, term}
 use Rattle.circle.specs.Inside.Fixed.{Apart}

@@ -1,4 +1,4 @@
--- What `isSure` and `arctangentAboveZero` come to, test by test. Assumes nothing.
+-- What `is_sure` and `arctangent_above_zero` come to, test by test. Assumes nothing.
 use mathlib.Core.Path.{◌≡◌, ◌∙◌}
 use mathlib.Core.Bool.{Bool, true, false}
 use Prim.Native.Nat.{ℕ, ◌*◌, ◌/◌, ◌^◌, ◌≤◌, ◌<◌}

@@ -1,4 +1,4 @@
--- How `bisectedFrom` goes on and ends. Assumes nothing.
+-- How `bisected_from` goes on and ends. Assumes nothing.
 use mathlib.Core.Path.{◌≡◌, refl}
 use Prim.Native.Nat.{ℕ, zero, suc, ◌+◌, ◌-◌, ◌≤◌, ◌<◌}
 use native.Mathlib.Omega.{arith}

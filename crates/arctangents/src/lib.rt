@@ -14,8 +14,8 @@ ghost use Rattle.arctangents.specs.Inside.Arctangent.{IsFine, Above, Below, IsFu
 
 // Whether p * 2^i is at most q * 2^j, where that is sure.
 fn reaches(p: u64, q: u64, i: u64, j: u64) -> bool
-    ensures i_bound { result ≡ true → p * 2 ^ i ≤ q * 2 ^ j }
-    ensures j_bound { result ≡ false → 0 < p → q * 2 ^ j ≤ p * 2 ^ i + 2 ^ j }
+    ensures sure { result ≡ true → p * 2 ^ i ≤ q * 2 ^ j }
+    ensures unsure { result ≡ false → 0 < p → q * 2 ^ j ≤ p * 2 ^ i + 2 ^ j }
     ensures value { result ≡ ArctangentValues.reaches p q i j }
 {
     if i <= j {
@@ -150,8 +150,8 @@ fn encloses(low: u64, m: u64, e: u64) -> bool
 
 // The whole part of g * 2^58, for a g below 2.
 fn fine(g: f64) -> u64
-    requires fact_1 { T (Ieee.lt (fin false 0 (pos 0)) g) }
-    requires fact_2 { T (Ieee.lt g (fin false 1 (pos 1))) }
+    requires above_zero { T (Ieee.lt (fin false 0 (pos 0)) g) }
+    requires below_two { T (Ieee.lt g (fin false 1 (pos 1))) }
     ensures fine { IsFine (num g) (den g) result }
     ensures value { result ≡ ArctangentValues.fine g }
 {
@@ -166,7 +166,7 @@ fn fine(g: f64) -> u64
 
 // y less 2^17, or 0.
 fn beneath(y: u64) -> u64
-    ensures upper_bound { (result ≤ y) × (y ≤ result + 2 ^ 17) }
+    ensures near { (result ≤ y) × (y ≤ result + 2 ^ 17) }
     ensures value { result ≡ ArctangentValues.beneath y }
 {
     if y < 0x20000 {
@@ -309,8 +309,8 @@ fn bisected(m: u64, e: u64) -> u64
 // The arctangent of a finite x above zero. How near the guess is is not proved, so its bounds are
 // tested.
 fn arctangent_above_zero(x: f64) -> f64
-    requires fact_1 { T (Ieee.lt (fin false 0 (pos 0)) x) }
-    requires fact_2 { T (Ieee.lt x (inf false)) }
+    requires above_zero { T (Ieee.lt (fin false 0 (pos 0)) x) }
+    requires finite { T (Ieee.lt x (inf false)) }
     ensures arctangent { IsArctangent x result }
     ensures value { result ≡ ArctangentValues.arctangent_above_zero x }
 {
@@ -333,8 +333,8 @@ fn arctangent_above_zero(x: f64) -> f64
 
 // The arctangent of a finite x from 0 on.
 fn ranged_arctangent(x: f64) -> f64
-    requires fact_1 { T (Ieee.le (fin false 0 (pos 0)) x) }
-    requires fact_2 { T (Ieee.lt x (inf false)) }
+    requires not_negative { T (Ieee.le (fin false 0 (pos 0)) x) }
+    requires finite { T (Ieee.lt x (inf false)) }
     ensures arctangent { IsArctangent x result }
     ensures value { result ≡ ArctangentValues.ranged_arctangent x }
 {

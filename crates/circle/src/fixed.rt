@@ -50,7 +50,7 @@ pub fn parts(n: u64) -> f64
 
 // A guess of which nothing is proved, where it lies from low to high, and low where it does not.
 pub fn guarded(guess: f64, low: f64, high: f64) -> f64
-    ensures fact { (result ≡ low) ⊎ (T (le low result) × T (le result high)) }
+    ensures low_or_within { (result ≡ low) ⊎ (T (le low result) × T (le result high)) }
     ensures value { result ≡ guarded guess low high }
 {
     if low <= guess {

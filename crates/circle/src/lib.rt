@@ -97,7 +97,7 @@ fn first(y: u64) -> Initial
 pub fn circle(y: u64, doublings: u64) -> Pair
     requires { (y ≤ 200 * 2 ^ 52) × (doublings ≤ 11) }
     ensures circle { IsCircle y doublings result.cn result.c result.sn result.s }
-    ensures c_bound { (result.c ≤ 9 * 2 ^ 60) × (result.s ≤ 9 * 2 ^ 60) }
+    ensures bounds { (result.c ≤ 9 * 2 ^ 60) × (result.s ≤ 9 * 2 ^ 60) }
     ensures value { result ≡ CircleValues.circle y doublings }
 {
     let begin = first(y);

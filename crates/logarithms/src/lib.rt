@@ -117,8 +117,8 @@ fn tested_above(guess: f64, n: u64) -> f64
 // The decimal logarithm of a number above zero that is finite. 2148 * 2^22 is the binary one of 1, in
 // units of 2^-22, as t counts it.
 fn log_above_zero(x: f64) -> f64
-    requires fact_1 { T (Ieee.lt (fin false 0 (pos 0)) x) }
-    requires fact_2 { T (Ieee.lt x (inf false)) }
+    requires above_zero { T (Ieee.lt (fin false 0 (pos 0)) x) }
+    requires finite { T (Ieee.lt x (inf false)) }
     ensures near { Near x result }
     ensures value { result ≡ log_above_zero x }
 {

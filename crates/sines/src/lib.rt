@@ -14,9 +14,9 @@ ghost use Rattle.sines.specs.Inside.SineValues as SineValues;
 
 // x * 2^52, which is a whole number from 1 on.
 fn scaled(x: f64) -> u64
-    requires fact_1 { T (Ieee.le (fin false 1 (pos 0)) x) }
-    requires fact_2 { T (Ieee.le x (fin false 25 (pos 3))) }
-    ensures upper_bound { (result ≤ 200 * 2 ^ 52) × (result * den x ≡ num x * 2 ^ 52) }
+    requires least { T (Ieee.le (fin false 1 (pos 0)) x) }
+    requires most { T (Ieee.le x (fin false 25 (pos 3))) }
+    ensures exact { (result ≤ 200 * 2 ^ 52) × (result * den x ≡ num x * 2 ^ 52) }
     ensures value { result ≡ SineValues.scaled x }
 {
     let s = circle::fixed::unpack(x);
@@ -105,8 +105,8 @@ fn guess(x: f64, ahead: f64) -> f64
 
 // The cosine of x, from 1 to 200.
 fn far_cosine(x: f64) -> f64
-    requires fact_1 { T (Ieee.le (fin false 1 (pos 0)) x) }
-    requires fact_2 { T (Ieee.le x (fin false 25 (pos 3))) }
+    requires least { T (Ieee.le (fin false 1 (pos 0)) x) }
+    requires most { T (Ieee.le x (fin false 25 (pos 3))) }
     ensures cosine { IsCosine x result }
     ensures value { result ≡ SineValues.far_cosine x }
 {
@@ -118,8 +118,8 @@ fn far_cosine(x: f64) -> f64
 
 // The sine of x, from 1 to 200.
 fn far_sine(x: f64) -> f64
-    requires fact_1 { T (Ieee.le (fin false 1 (pos 0)) x) }
-    requires fact_2 { T (Ieee.le x (fin false 25 (pos 3))) }
+    requires least { T (Ieee.le (fin false 1 (pos 0)) x) }
+    requires most { T (Ieee.le x (fin false 25 (pos 3))) }
     ensures sine { IsSine x result }
     ensures value { result ≡ SineValues.far_sine x }
 {
@@ -131,11 +131,11 @@ fn far_sine(x: f64) -> f64
 
 // The cosine of x, from 0 to 200.
 fn ranged_cosine(x: f64) -> f64
-    requires fact_1 { T (Ieee.le (fin false 0 (pos 0)) x) }
-    requires fact_2 { T (Ieee.le x (fin false 25 (pos 3))) }
+    requires least { T (Ieee.le (fin false 0 (pos 0)) x) }
+    requires most { T (Ieee.le x (fin false 25 (pos 3))) }
     ensures cosine { IsCosine x result }
-    ensures value { T (is_tiny x) → result ≡ fin false 1 (pos 0) }
-    ensures value_2 { result ≡ SineValues.ranged_cosine x }
+    ensures tiny { T (is_tiny x) → result ≡ fin false 1 (pos 0) }
+    ensures value { result ≡ SineValues.ranged_cosine x }
 {
     if x < 7.450580596923828125e-9 {
         return 1.0;
@@ -148,11 +148,11 @@ fn ranged_cosine(x: f64) -> f64
 
 // The sine of x, from 0 to 200.
 fn ranged_sine(x: f64) -> f64
-    requires fact_1 { T (Ieee.le (fin false 0 (pos 0)) x) }
-    requires fact_2 { T (Ieee.le x (fin false 25 (pos 3))) }
+    requires least { T (Ieee.le (fin false 0 (pos 0)) x) }
+    requires most { T (Ieee.le x (fin false 25 (pos 3))) }
     ensures sine { IsSine x result }
-    ensures value { T (is_tiny x) → result ≡ x }
-    ensures value_2 { result ≡ SineValues.ranged_sine x }
+    ensures tiny { T (is_tiny x) → result ≡ x }
+    ensures value { result ≡ SineValues.ranged_sine x }
 {
     if x < 7.450580596923828125e-9 {
         return x;

@@ -19,8 +19,8 @@ struct Fraction {
 
 // x, from 2^-27 to 1, with an m of 63 binary digits.
 fn split(x: f64) -> Fraction
-    requires fact_1 { T (Ieee.le (Ieee.of_bits binary64 0x3e40_0000_0000_0000) x) }
-    requires fact_2 { T (Ieee.lt x (fin false 1 (pos 0))) }
+    requires least { T (Ieee.le (Ieee.of_bits binary64 0x3e40_0000_0000_0000) x) }
+    requires most { T (Ieee.lt x (fin false 1 (pos 0))) }
     ensures split { IsSplit (num x) (den x) result.m result.k }
     ensures value { result ≡ SmallValues.split x }
 {
@@ -102,7 +102,7 @@ fn lower(n: u64) -> u64
 // n with 1024 more, or the largest number of 53 binary digits.
 fn upper(n: u64) -> u64
     requires { n < 2 ^ 53 }
-    ensures lower_bound { (n ≤ result) × (result ≤ n + 1024) × (result < 2 ^ 53) }
+    ensures near { (n ≤ result) × (result ≤ n + 1024) × (result < 2 ^ 53) }
     ensures value { result ≡ SmallValues.upper n }
 {
     if n < 0x1f_ffff_ffff_fc00 {
@@ -122,8 +122,8 @@ fn tested_share(guess: f64, n: u64, k: u64) -> f64
 
 // The sine of x, from 2^-27 to 1: the guess, where the series proves it.
 pub fn low_sine(x: f64, guess: f64) -> f64
-    requires fact_1 { T (Ieee.le (Ieee.of_bits binary64 0x3e40_0000_0000_0000) x) }
-    requires fact_2 { T (Ieee.lt x (fin false 1 (pos 0))) }
+    requires least { T (Ieee.le (Ieee.of_bits binary64 0x3e40_0000_0000_0000) x) }
+    requires most { T (Ieee.lt x (fin false 1 (pos 0))) }
     ensures sine { IsSine x result }
     ensures value { result ≡ SmallValues.low_sine x guess }
 {
@@ -136,8 +136,8 @@ pub fn low_sine(x: f64, guess: f64) -> f64
 
 // The cosine of x, from 2^-27 to 1: the guess, where the series proves it.
 pub fn low_cosine(x: f64, guess: f64) -> f64
-    requires fact_1 { T (Ieee.le (Ieee.of_bits binary64 0x3e40_0000_0000_0000) x) }
-    requires fact_2 { T (Ieee.lt x (fin false 1 (pos 0))) }
+    requires least { T (Ieee.le (Ieee.of_bits binary64 0x3e40_0000_0000_0000) x) }
+    requires most { T (Ieee.lt x (fin false 1 (pos 0))) }
     ensures cosine { IsCosine x result }
     ensures value { result ≡ SmallValues.low_cosine x guess }
 {

@@ -4,7 +4,6 @@ use mathlib.Core.Bool.{true≢false}
 use Prim.Native.Nat.{ℕ, ◌+◌, ◌-◌, ◌*◌, ◌^◌, ◌≤◌, ◌<◌, zero-le}
 use native.Mathlib.Nat.{le_trans, le_of_eq, le_of_lt, zero-mul}
 use native.Mathlib.Omega.{arith}
-use borrow.Author.Rules.{rules}
 use borrow.Author.Tests.{lt-ltb, le-ltb, le-leb, lt-leb}
 use Rattle.circle.specs.Inside.Signed.{plus, less}
 use Rattle.arctangents.specs.Inside.ArctangentValues as ArctangentValues
@@ -84,22 +83,23 @@ returns-then-cn-gt0 c =
     let a = c.args in
     let k = one_of a.cn c.if-cn-gt0.true a.c in
     let h = c.high.result in
-    let i = high_of (8192 - a.c) a.m h c.requires.1 c.high.ensures.high in (
-      λ t. record {
+    let i = high_of (8192 - a.c) a.m h c.requires.1 c.high.ensures.high in record {
+      above = λ t. record {
         top = 8192 - a.c;
         bottom = a.s - 8192;
         east_side = rw (k.0, k.1) (go a.c c.if-c-ge8192.false);
         north_side = sine_side a.sn a.s c.if-sn-gt0.false c.if-s-lt8192.false;
-        sure = sure_above (8192 - a.c) (a.s - 8192) a.m a.e h i (c.reaches.ensures.i_bound t);
-      },
-      (λ t g p q v. below_west a.cn a.c a.sn a.s p q c.if-cn-gt0.true c.if-sn-gt0.false c.if-s-lt8192.false c.if-c-ge8192.false (unsure_above (8192 - a.c) (a.s - 8192) a.m a.e h i c.requires.0 (c.reaches.ensures.j_bound t (some h)) p q v), rw (le-leb _ _ c.if-sn-gt0.false, le-leb _ _ c.if-s-lt8192.false, le-leb _ _ c.if-c-gt10376293541461622784.false, lt-ltb _ _ c.if-cn-gt0.true, lt-leb _ _ c.if-c-ge8192.false, ← shifted a.m c.requires.1, c.reaches.ensures.value, c.high.ensures.value)),
-    )
+        sure = sure_above (8192 - a.c) (a.s - 8192) a.m a.e h i (c.reaches.ensures.sure t);
+      };
+      nearly_below = λ t g p q v. below_west a.cn a.c a.sn a.s p q c.if-cn-gt0.true c.if-sn-gt0.false c.if-s-lt8192.false c.if-c-ge8192.false (unsure_above (8192 - a.c) (a.s - 8192) a.m a.e h i c.requires.0 (c.reaches.ensures.unsure t (some h)) p q v);
+      value = rw (le-leb _ _ c.if-sn-gt0.false, le-leb _ _ c.if-s-lt8192.false, le-leb _ _ c.if-c-gt10376293541461622784.false, lt-ltb _ _ c.if-cn-gt0.true, lt-leb _ _ c.if-c-ge8192.false, ← shifted a.m c.requires.1, c.reaches.ensures.value, c.high.ensures.value);
+    }
   where
     go : (c : ℕ) → c < 8192 → 0 + 8192 ≤ 8192 - c + c
     go c h = omega arith
 
-pub overflow_add-high : goal.overflow_add-high
-overflow_add-high c = record { fits = more_fits c.args.c c.if-c-gt10376293541461622784.false }
+pub overflow_add-c : goal.overflow_add-c
+overflow_add-c c = record { fits = more_fits c.args.c c.if-c-gt10376293541461622784.false }
 
 pub high-requires-2 : goal.high-requires-2
 high-requires-2 c = (more_wide c.args.c c.if-c-gt10376293541461622784.false, wide c.args.m c.requires.1)
@@ -113,16 +113,17 @@ returns c =
     let a = c.args in
     let k = none_of a.cn c.if-cn-gt0.false a.c in
     let h = c.high-2.result in
-    let i = high_of (a.c + 8192) a.m h c.requires.1 c.high-2.ensures.high in (
-      λ t. record {
+    let i = high_of (a.c + 8192) a.m h c.requires.1 c.high-2.ensures.high in record {
+      above = λ t. record {
         top = a.c + 8192;
         bottom = a.s - 8192;
         east_side = rw (k.0, k.1) (go a.c);
         north_side = sine_side a.sn a.s c.if-sn-gt0.false c.if-s-lt8192.false;
-        sure = sure_above (a.c + 8192) (a.s - 8192) a.m a.e h i (c.reaches-2.ensures.i_bound t);
-      },
-      (λ t g p q v. below_east a.cn a.c a.sn a.s p q c.if-cn-gt0.false c.if-sn-gt0.false c.if-s-lt8192.false (unsure_above (a.c + 8192) (a.s - 8192) a.m a.e h i c.requires.0 (c.reaches-2.ensures.j_bound t (some h)) p q v), rw (le-leb _ _ c.if-sn-gt0.false, le-leb _ _ c.if-s-lt8192.false, le-leb _ _ c.if-c-gt10376293541461622784.false, le-ltb _ _ c.if-cn-gt0.false, ← shifted a.m c.requires.1, c.reaches-2.ensures.value, c.high-2.ensures.value)),
-    )
+        sure = sure_above (a.c + 8192) (a.s - 8192) a.m a.e h i (c.reaches-2.ensures.sure t);
+      };
+      nearly_below = λ t g p q v. below_east a.cn a.c a.sn a.s p q c.if-cn-gt0.false c.if-sn-gt0.false c.if-s-lt8192.false (unsure_above (a.c + 8192) (a.s - 8192) a.m a.e h i c.requires.0 (c.reaches-2.ensures.unsure t (some h)) p q v);
+      value = rw (le-leb _ _ c.if-sn-gt0.false, le-leb _ _ c.if-s-lt8192.false, le-leb _ _ c.if-c-gt10376293541461622784.false, le-ltb _ _ c.if-cn-gt0.false, ← shifted a.m c.requires.1, c.reaches-2.ensures.value, c.high-2.ensures.value);
+    }
   where
     go : (c : ℕ) → c + 8192 ≤ c + 8192 + 0
     go c = omega arith

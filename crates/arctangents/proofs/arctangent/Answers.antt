@@ -23,7 +23,7 @@ not_under x e h = true≢false (sym (ap (λ (z : Float). le (fin false 0 (pos 0)
 
 pub ranged_arctangent-requires : goal.ranged_arctangent-requires
 unfolding of_bits div
-ranged_arctangent-requires c = record { fact_1 = subst T (sym c.if-x.true) tt; fact_2 = subst T (sym c.if-x-2.true) tt }
+ranged_arctangent-requires c = record { not_negative = subst T (sym c.if-x.true) tt; finite = subst T (sym c.if-x-2.true) tt }
 
 pub returns-then-x-2 : goal.returns-then-x-2
 unfolding ArctangentValues.arctangent of_bits div

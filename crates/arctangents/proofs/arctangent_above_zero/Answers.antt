@@ -1,14 +1,12 @@
 -- `arctangents::arctangent_above_zero` meets its contract. Assumes nothing.
 use mathlib.Core.Path.{◌≡◌, sym, subst, ◌∙◌}
 use mathlib.Core.Bool.{false}
-use mathlib.Core.Logic.{⊎_elim}
 use Prim.Native.Nat.{ℕ, suc, ◌+◌, ◌*◌, ◌/◌, ◌^◌, ◌≤◌, ◌<◌}
 use native.Mathlib.Nat.{le_trans, le_of_eq, add-le-add, le_refl, mul-le-mul_right, add-mul}
 use native.Mathlib.Omega.{arith}
 use lib.Dec.{T}
 use lib.Ieee.{of_bits}
 use lib.Ieee.Positive.{num, den, positive, positive-finite}
-use borrow.Author.Rules.{rules}
 use Rattle.arctangents.specs.Inside.ArctangentValues.{is_sure}
 use Rattle.arctangents.proofs.Range.{two_positive, less_none}
 use Rattle.circle.proofs.fixed.Order.{above_of}
@@ -18,7 +16,7 @@ use Rattle.arctangents.proofs.arctangent_above_zero.Goals as goal
 use Rattle.arctangents.proofs.arctangent_above_zero.Goals.{Joined-g, Start}
 
 above : (c : Start) → T (positive c.args.x)
-above c = above_of c.args.x c.requires.fact_1 c.requires.fact_2
+above c = above_of c.args.x c.requires.above_zero c.requires.finite
 
 upto : (y l : ℕ) → y < 7 * 2 ^ 56 → l ≤ y → l + 2 ^ 18 ≤ 2 ^ 59
 upto y l h k = omega arith
@@ -42,20 +40,22 @@ tests c =
     let g = c.guess-g.result in
     let m = c.unpack-s.result.m in
     let e = c.unpack-s.result.e in
-    ⊎_elim (λ w. enclosed g m e _ _ _ w.0.taken w.1.taken w.2.ensures.1 w.3.taken w.4.ensures.1 w.5.ensures.1 ∙ w.6.left)
-    (⊎_elim (λ w. not_fine g m e _ w.0.taken w.1.taken w.2.ensures.1 w.3.left)
-    (⊎_elim (λ w. not_below g m e w.0.taken w.1.left) (λ w. not_above g m e w.left)))
-    c.if-g.branch
+    elim c.if-g.branch [
+      | goal.then-g+then-g-2+then-y-lt504403158265495552+else-encloses w ↦ enclosed g m e _ _ _ w.if-g.true w.if-g-2.true w.fine-y.ensures.value w.if-y-lt504403158265495552.true w.beneath.ensures.value w.encloses.ensures.value ∙ w.if-encloses.false
+      | goal.then-g+then-g-2+else-y-lt504403158265495552 w ↦ not_fine g m e _ w.if-g.true w.if-g-2.true w.fine-y.ensures.value w.if-y-lt504403158265495552.false
+      | goal.then-g+else-g-2 w ↦ not_below g m e w.if-g.true w.if-g-2.false
+      | goal.else-g w ↦ not_above g m e w.if-g.false
+    ]
 
 pub unpack-s-requires : goal.unpack-s-requires
 unpack-s-requires c = above c
 
 pub fine-y-requires : goal.fine-y-requires
 unfolding of_bits
-fine-y-requires c = record { fact_1 = subst T (sym c.if-g.true) tt; fact_2 = subst T (sym c.if-g-2.true) tt }
+fine-y-requires c = record { above_zero = subst T (sym c.if-g.true) tt; below_two = subst T (sym c.if-g-2.true) tt }
 
 pub encloses-requires : goal.encloses-requires
-encloses-requires c = (upto c.fine-y.result c.beneath.result c.if-y-lt504403158265495552.true c.beneath.ensures.upper_bound.0, c.unpack-s.ensures.unpacked.least, c.unpack-s.ensures.unpacked.most)
+encloses-requires c = (upto c.fine-y.result c.beneath.result c.if-y-lt504403158265495552.true c.beneath.ensures.near.0, c.unpack-s.ensures.unpacked.least, c.unpack-s.ensures.unpacked.most)
 
 pub returns-then-encloses : goal.returns-then-encloses
 unfolding of_bits
@@ -72,10 +72,10 @@ returns-then-encloses c =
         not_negative = less_none g p;
         low = b.result;
         up = b.result + 2 ^ 18;
-        low_near = le_trans f.ensures.fine.high (mul-le-mul_right (den g) (near_low f.result b.result b.ensures.upper_bound.1));
-        up_near = le_trans (mul-le-mul_right (den g) (near_up f.result b.result b.ensures.upper_bound.0)) (le_trans (le_of_eq (add-mul f.result (2 ^ 18) (den g))) (add-le-add f.ensures.fine.low (le_refl (2 ^ 18 * den g))));
-        low_upto_two = downto f.result b.result c.if-y-lt504403158265495552.true b.ensures.upper_bound.0;
-        up_upto_two = upto f.result b.result c.if-y-lt504403158265495552.true b.ensures.upper_bound.0;
+        low_near = le_trans f.ensures.fine.high (mul-le-mul_right (den g) (near_low f.result b.result b.ensures.near.1));
+        up_near = le_trans (mul-le-mul_right (den g) (near_up f.result b.result b.ensures.near.0)) (le_trans (le_of_eq (add-mul f.result (2 ^ 18) (den g))) (add-le-add f.ensures.fine.low (le_refl (2 ^ 18 * den g))));
+        low_upto_two = downto f.result b.result c.if-y-lt504403158265495552.true b.ensures.near.0;
+        up_upto_two = upto f.result b.result c.if-y-lt504403158265495552.true b.ensures.near.0;
         from_below = t.from_below (num x) (den x) c.unpack-s.ensures.unpacked.value;
         from_above = t.from_above (num x) (den x) c.unpack-s.ensures.unpacked.value;
       };
@@ -92,4 +92,4 @@ pub returns : goal.returns
 returns c =
     let f = c.bisected in
     let s = c.unpack-s in
-    let x = c.args.x in record { arctangent = found_is x c.parts.result f.result s.result.m s.result.e f.ensures.found c.parts.ensures.has_value s.ensures.unpacked.value; value = c.parts.ensures.value ∙ unsure x c.guess-g.result s.result s.ensures.value c.guess-g.ensures f.result f.ensures.value (tests c.before) }
+    let x = c.args.x in record { arctangent = found_is x c.parts.result f.result s.result.m s.result.e f.ensures.found c.parts.ensures.has_value s.ensures.unpacked.value; value = c.parts.ensures.value ∙ unsure x c.guess-g.result s.result s.ensures.value c.guess-g.ensures f.result f.ensures.value (tests c.before.before) }

@@ -4,7 +4,6 @@ use mathlib.Core.Bool.{true≢false}
 use Prim.Native.Nat.{ℕ, ◌+◌, ◌-◌, ◌*◌, ◌^◌, ◌≤◌, ◌<◌}
 use native.Mathlib.Nat.{zero-lt-suc}
 use native.Mathlib.Omega.{arith}
-use borrow.Author.Rules.{rules}
 use borrow.Author.Tests.{lt-ltb, le-ltb, le-leb, lt-leb}
 use Rattle.arctangents.specs.Inside.ArctangentValues as ArctangentValues
 use Rattle.arctangents.proofs.Sides.{sure_below, unsure_below}
@@ -56,16 +55,17 @@ returns-then-sn-gt0 c =
     let k = none_of a.cn c.if-cn-gt0.false a.c in
     let l = one_of a.sn c.if-sn-gt0.true a.s in
     let h = c.high.result in
-    let i = high_of (a.c - 8192) a.m h c.requires.1 c.high.ensures.high in (
-      λ t. record {
+    let i = high_of (a.c - 8192) a.m h c.requires.1 c.high.ensures.high in record {
+      below = λ t. record {
         top = a.c - 8192;
         bottom = 8192;
         east_side = rw (k.0, k.1) (cosine_side a.c c.if-c-lt8192.false);
         north_side = rw (l.0, l.1) (go a.s);
-        sure = sure_below (a.c - 8192) 8192 a.m a.e h i (c.reaches.ensures.i_bound t);
-      },
-      (λ t g p q v. above_south a.cn a.c a.sn a.s p q c.if-cn-gt0.false c.if-sn-gt0.true c.if-c-lt8192.false g (unsure_below (a.c - 8192) 8192 a.m a.e h i c.requires.0 (c.reaches.ensures.j_bound t (zero-lt-suc 8191)) p q v), rw (le-leb _ _ c.if-cn-gt0.false, le-leb _ _ c.if-c-lt8192.false, le-leb _ _ c.if-c-gt10376293541461622784.false, le-leb _ _ c.if-s-gt10376293541461622784.false, lt-ltb _ _ c.if-sn-gt0.true, ← shifted a.m c.requires.1, c.reaches.ensures.value, c.high.ensures.value)),
-    )
+        sure = sure_below (a.c - 8192) 8192 a.m a.e h i (c.reaches.ensures.sure t);
+      };
+      nearly_above = λ t g p q v. above_south a.cn a.c a.sn a.s p q c.if-cn-gt0.false c.if-sn-gt0.true c.if-c-lt8192.false g (unsure_below (a.c - 8192) 8192 a.m a.e h i c.requires.0 (c.reaches.ensures.unsure t (zero-lt-suc 8191)) p q v);
+      value = rw (le-leb _ _ c.if-cn-gt0.false, le-leb _ _ c.if-c-lt8192.false, le-leb _ _ c.if-c-gt10376293541461622784.false, le-leb _ _ c.if-s-gt10376293541461622784.false, lt-ltb _ _ c.if-sn-gt0.true, ← shifted a.m c.requires.1, c.reaches.ensures.value, c.high.ensures.value);
+    }
   where
     go : (s : ℕ) → 0 + 8192 ≤ 8192 + s
     go s = omega arith
@@ -83,16 +83,17 @@ returns c =
     let k = none_of a.cn c.if-cn-gt0.false a.c in
     let l = none_of a.sn c.if-sn-gt0.false a.s in
     let h = c.high-2.result in
-    let i = high_of (a.c - 8192) a.m h c.requires.1 c.high-2.ensures.high in (
-      λ t. record {
+    let i = high_of (a.c - 8192) a.m h c.requires.1 c.high-2.ensures.high in record {
+      below = λ t. record {
         top = a.c - 8192;
         bottom = a.s + 8192;
         east_side = rw (k.0, k.1) (cosine_side a.c c.if-c-lt8192.false);
         north_side = rw (l.0, l.1) (go a.s);
-        sure = sure_below (a.c - 8192) (a.s + 8192) a.m a.e h i (c.reaches-2.ensures.i_bound t);
-      },
-      (λ t g p q v. above_north a.cn a.c a.sn a.s p q c.if-cn-gt0.false c.if-sn-gt0.false c.if-c-lt8192.false (unsure_below (a.c - 8192) (a.s + 8192) a.m a.e h i c.requires.0 (c.reaches-2.ensures.j_bound t (some a.s)) p q v), rw (le-leb _ _ c.if-cn-gt0.false, le-leb _ _ c.if-c-lt8192.false, le-leb _ _ c.if-c-gt10376293541461622784.false, le-leb _ _ c.if-s-gt10376293541461622784.false, le-ltb _ _ c.if-sn-gt0.false, ← shifted a.m c.requires.1, c.reaches-2.ensures.value, c.high-2.ensures.value)),
-    )
+        sure = sure_below (a.c - 8192) (a.s + 8192) a.m a.e h i (c.reaches-2.ensures.sure t);
+      };
+      nearly_above = λ t g p q v. above_north a.cn a.c a.sn a.s p q c.if-cn-gt0.false c.if-sn-gt0.false c.if-c-lt8192.false (unsure_below (a.c - 8192) (a.s + 8192) a.m a.e h i c.requires.0 (c.reaches-2.ensures.unsure t (some a.s)) p q v);
+      value = rw (le-leb _ _ c.if-cn-gt0.false, le-leb _ _ c.if-c-lt8192.false, le-leb _ _ c.if-c-gt10376293541461622784.false, le-leb _ _ c.if-s-gt10376293541461622784.false, le-ltb _ _ c.if-sn-gt0.false, ← shifted a.m c.requires.1, c.reaches-2.ensures.value, c.high-2.ensures.value);
+    }
   where
     go : (s : ℕ) → s + 8192 ≤ s + 8192 + 0
     go s = omega arith

@@ -6,8 +6,8 @@ use Rattle.arctangents.proofs.beneath.Goals as goal
 
 pub returns-then-y-lt131072 : goal.returns-then-y-lt131072
 unfolding ArctangentValues.beneath
-returns-then-y-lt131072 c = record { upper_bound = (omega arith, omega (arith, c.if-y-lt131072.true)); value = omega (arith, c.if-y-lt131072.true) }
+returns-then-y-lt131072 c = record { near = (omega arith, omega (arith, c.if-y-lt131072.true)); value = omega (arith, c.if-y-lt131072.true) }
 
 pub returns : goal.returns
 unfolding ArctangentValues.beneath
-returns c = record { upper_bound = (omega arith, omega (arith, c.if-y-lt131072.false)); value = refl }
+returns c = record { near = (omega arith, omega (arith, c.if-y-lt131072.false)); value = refl }

@@ -1,5 +1,4 @@
 -- `arctangents::beside` meets its contract. Assumes nothing.
-use borrow.Author.Rules.{rules}
 use Rattle.arctangents.specs.Inside.ArctangentValues as ArctangentValues
 use Rattle.arctangents.proofs.beside.Goals as goal
 

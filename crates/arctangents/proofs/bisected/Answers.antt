@@ -1,11 +1,10 @@
 -- `arctangents::bisected` meets its contract. Assumes nothing.
-use mathlib.Core.Path.{◌≡◌, refl, sym, ap, ◌∙◌}
+use mathlib.Core.Path.{refl, sym, ap, ◌∙◌}
 use Prim.Native.Nat.{ℕ, ◌+◌, ◌-◌, ◌^◌, ◌≤◌, ◌<◌}
 use native.Mathlib.Nat.{le_refl, lt_irrefl}
 use native.Mathlib.Omega.{arith}
 use lib.Dec.{leb→le}
 use Rattle.arctangents.specs.declared.Bracket.{Bracket}
-use Rattle.arctangents.specs.Inside.Arctangent.{Between}
 use Rattle.arctangents.specs.Inside.ArctangentValues.{bisected_from, bisected}
 use Rattle.arctangents.proofs.Upto.{two_above}
 use Rattle.arctangents.proofs.Turns.{turn, last}

@@ -1,24 +1,18 @@
--- `arctangents::bisected` meets its contract. Assumes nothing.
-use mathlib.Core.Path.{◌≡◌, refl, sym, ap, ◌∙◌}
-use Prim.Native.Nat.{ℕ, ◌+◌, ◌-◌, ◌^◌, ◌≤◌, ◌<◌}
-use native.Mathlib.Nat.{le_refl, lt_irrefl}
-use native.Mathlib.Omega.{arith}
-use lib.Dec.{leb→le}
-use Rattle.arctangents.specs.declared.Bracket.{Bracket}
+-- The loop of `arctangents::bisected`.
+use mathlib.Core.Path.{◌≡◌}
+use Prim.Native.Nat.{ℕ, ◌-◌, ◌^◌, ◌≤◌, ◌<◌}
 use Rattle.arctangents.specs.Inside.Arctangent.{Between}
 use Rattle.arctangents.specs.Inside.ArctangentValues.{bisected_from, bisected}
-use Rattle.arctangents.proofs.Upto.{two_above}
-use Rattle.arctangents.proofs.Turns.{turn, last}
 use Rattle.arctangents.proofs.bisected.Given as goal
 
 -- what is left to do, in `left` turns at most, gives what the whole gives
 pub record Holds (m e low up : ℕ) : Type 0 where
-  order : low < up
-  upto : up ≤ 2 ^ 59
-  bounds : Between low up m e
-  left : ℕ
-  enough : up - low ≤ left
-  rest : bisected_from m e left low up ≡ bisected m e
+  pub order : low < up
+  pub upto : up ≤ 2 ^ 59
+  pub bounds : Between low up m e
+  pub left : ℕ
+  pub enough : up - low ≤ left
+  pub rest : bisected_from m e left low up ≡ bisected m e
 
 abbrev pub invariant-loop-low : goal.invariant-loop-low
 invariant-loop-low l = Holds l.m l.e l.low l.up

@@ -5,7 +5,7 @@ use Prim.Native.Nat.{ℕ, ◌+◌, ◌*◌, ◌^◌, ◌≤◌, ◌<◌}
 use native.Mathlib.Nat.{le_trans}
 use native.Mathlib.Omega.{arith}
 use lib.Dec.{leb→le}
-use borrow.Author.Tests.{not-true, not-false, le-leb, lt-leb, eq-eqb, ne_eqb}
+use borrow.Author.Tests.{le-leb, lt-leb, eq-eqb, ne_eqb}
 use Rattle.circle.specs.Inside.Circle.{IsCircle}
 use Rattle.arctangents.specs.Inside.ArctangentValues as ArctangentValues
 use Rattle.arctangents.proofs.Sides.{Stated, stated, above_is, below_is}
@@ -35,7 +35,7 @@ moved c =
     let s = c.before in
     let p = c.circle-p in
     let r = c.further-q.result in
-    further_is s.args.low p.result.c p.result.s r.cn r.c r.sn r.s s.requires.0 p.ensures.c_bound.0 p.ensures.c_bound.1
+    further_is s.args.low p.result.c p.result.s r.cn r.c r.sn r.s s.requires.0 p.ensures.bounds.0 p.ensures.bounds.1
     (unsigned s.args.low p.result.cn p.result.c p.result.sn p.result.s c.if-cn-gt0.false c.if-sn-gt0.false p.ensures.circle) c.further-q.ensures.further
 
 nothing : (y : ℕ) → y ≡ 0 → 0 < y → ⊥
@@ -53,14 +53,14 @@ unfolding ArctangentValues.encloses
 returns-then-sn-gt0 c = record { between = λ t. absurd (true≢false (sym t)); value = rw (← c.circle-p.ensures.value, le-leb _ _ c.if-cn-gt0.false, lt-leb _ _ c.if-sn-gt0.true) }
 
 pub further-q-requires : goal.further-q-requires
-further-q-requires c = (c.circle-p.ensures.c_bound.0, c.circle-p.ensures.c_bound.1)
+further-q-requires c = (c.circle-p.ensures.bounds.0, c.circle-p.ensures.bounds.1)
 
 pub above-requires : goal.above-requires
 above-requires c = (c.requires.1, c.requires.2)
 
 pub returns-then-not-above : goal.returns-then-not-above
 unfolding ArctangentValues.encloses
-returns-then-not-above c = record { between = λ t. absurd (true≢false (sym t)); value = rw (← c.circle-p.ensures.value, le-leb _ _ c.if-cn-gt0.false, le-leb _ _ c.if-sn-gt0.false, ← c.further-q.ensures.value, ← c.above.ensures.value, not-true c.above.result c.if-not-above.true) }
+returns-then-not-above c = record { between = λ t. absurd (true≢false (sym t)); value = rw (← c.circle-p.ensures.value, le-leb _ _ c.if-cn-gt0.false, le-leb _ _ c.if-sn-gt0.false, ← c.further-q.ensures.value, ← c.above.ensures.value, c.if-not-above.true) }
 
 pub returns-then-low-eq0 : goal.returns-then-low-eq0
 unfolding ArctangentValues.encloses
@@ -69,9 +69,9 @@ returns-then-low-eq0 c =
     let r = c.further-q.result in record {
       between = λ t. record {
         from_below = λ a b v h n l. absurd (nothing s.args.low c.if-low-eq0.true h);
-        from_above = above_is (s.args.low + 2 ^ 18) r.cn r.c r.sn r.s s.args.m s.args.e (moved c.before) (c.above.ensures.above (not-false c.above.result c.if-not-above.false));
+        from_above = above_is (s.args.low + 2 ^ 18) r.cn r.c r.sn r.s s.args.m s.args.e (moved c.before.before.before) (c.above.ensures.above c.if-not-above.false);
       };
-      value = rw (← c.circle-p.ensures.value, le-leb _ _ c.if-cn-gt0.false, le-leb _ _ c.if-sn-gt0.false, ← c.further-q.ensures.value, ← c.above.ensures.value, not-false c.above.result c.if-not-above.false, eq-eqb _ _ c.if-low-eq0.true);
+      value = rw (← c.circle-p.ensures.value, le-leb _ _ c.if-cn-gt0.false, le-leb _ _ c.if-sn-gt0.false, ← c.further-q.ensures.value, ← c.above.ensures.value, c.if-not-above.false, eq-eqb _ _ c.if-low-eq0.true);
     }
 
 pub below-requires : goal.below-requires
@@ -85,7 +85,7 @@ returns c =
     let r = c.further-q.result in record {
       between = λ t. record {
         from_below = λ a b v h. below_is s.args.low p.result.cn p.result.c p.result.sn p.result.s s.args.m s.args.e (stated s.args.low p.result.cn p.result.c p.result.sn p.result.s (lower s.args.low s.requires.0) p.ensures.circle) (c.below.ensures.below t) a b v;
-        from_above = above_is (s.args.low + 2 ^ 18) r.cn r.c r.sn r.s s.args.m s.args.e (moved c.before) (c.above.ensures.above (not-false c.above.result c.if-not-above.false));
+        from_above = above_is (s.args.low + 2 ^ 18) r.cn r.c r.sn r.s s.args.m s.args.e (moved c.before.before.before.before) (c.above.ensures.above c.if-not-above.false);
       };
-      value = rw (← c.circle-p.ensures.value, le-leb _ _ c.if-cn-gt0.false, le-leb _ _ c.if-sn-gt0.false, ← c.further-q.ensures.value, ← c.above.ensures.value, not-false c.above.result c.if-not-above.false, ne_eqb _ _ c.if-low-eq0.false, c.below.ensures.value);
+      value = rw (← c.circle-p.ensures.value, le-leb _ _ c.if-cn-gt0.false, le-leb _ _ c.if-sn-gt0.false, ← c.further-q.ensures.value, ← c.above.ensures.value, c.if-not-above.false, ne_eqb _ _ c.if-low-eq0.false, c.below.ensures.value);
     }

@@ -1,5 +1,4 @@
 -- `arctangents::guess` meets its contract. Assumes nothing.
-use borrow.Author.Rules.{rules}
 use Rattle.arctangents.specs.Inside.ArctangentValues as ArctangentValues
 use Rattle.arctangents.proofs.guess.Goals as goal
 

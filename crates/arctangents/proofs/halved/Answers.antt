@@ -14,10 +14,10 @@ record Middle (low up mid : ℕ) : Type 0 where
   over : low < mid
   under : mid + 2 ^ 16 < up
   most : mid ≤ 2 ^ 59
-  most-too : mid + 2 ^ 16 ≤ 2 ^ 59
+  most_too : mid + 2 ^ 16 ≤ 2 ^ 59
 
 middle : (low up : ℕ) → low + 0x3ffc0 < up → up ≤ 2 ^ 59 → Middle low up (low + (up - low) / 2)
-middle low up h k = record { over = omega arith; under = omega arith; most = omega arith; most-too = omega arith }
+middle low up h k = record { over = omega arith; under = omega arith; most = omega arith; most_too = omega arith }
 
 in_range : (y : ℕ) → y ≤ 2 ^ 59 → y ≤ 200 * 2 ^ 52
 in_range y h = le_trans h (leb→le (2 ^ 59) (200 * 2 ^ 52) tt)
@@ -67,17 +67,17 @@ above-requires c = (c.requires.2, c.requires.3)
 pub returns-then-above : goal.returns-then-above
 unfolding ArctangentValues.halved
 returns-then-above c =
-    let b = c.before in
-    let a = b.args in
+    let a = c.args in
     let mid = a.low + (a.up - a.low) / 2 in
+    let i = middle a.low a.up c.requires.0 c.requires.1 in
     let p = c.circle-p in record {
       halved = record {
-        order = (mid_of b).over;
-        upto = (mid_of b).most;
-        closer = closer_up a.low a.up mid (mid_of b);
+        order = i.over;
+        upto = i.most;
+        closer = closer_up a.low a.up mid i;
         bounds = record {
-          from_below = b.requires.4.from_below;
-          from_above = above_is mid p.result.cn p.result.c p.result.sn p.result.s a.m a.e (stated mid p.result.cn p.result.c p.result.sn p.result.s (mid_of b).most p.ensures.circle) (c.above.ensures.above c.if-above.true);
+          from_below = c.requires.4.from_below;
+          from_above = above_is mid p.result.cn p.result.c p.result.sn p.result.s a.m a.e (stated mid p.result.cn p.result.c p.result.sn p.result.s i.most p.ensures.circle) (c.above.ensures.above c.if-above.true);
         };
       };
       value = rw (← c.circle-p.ensures.value, ← c.above.ensures.value, c.if-above.true);
@@ -89,17 +89,17 @@ below-requires c = (c.requires.2, c.requires.3)
 pub returns-then-below : goal.returns-then-below
 unfolding ArctangentValues.halved
 returns-then-below c =
-    let b = c.before in
-    let a = b.args in
+    let a = c.args in
     let mid = a.low + (a.up - a.low) / 2 in
+    let i = middle a.low a.up c.requires.0 c.requires.1 in
     let p = c.circle-p in record {
       halved = record {
-        order = under_up a.low a.up mid (mid_of b);
-        upto = b.requires.1;
-        closer = closer_low a.low a.up mid (mid_of b);
+        order = under_up a.low a.up mid i;
+        upto = c.requires.1;
+        closer = closer_low a.low a.up mid i;
         bounds = record {
-          from_below = λ x y v h. below_is mid p.result.cn p.result.c p.result.sn p.result.s a.m a.e (stated mid p.result.cn p.result.c p.result.sn p.result.s (mid_of b).most p.ensures.circle) (c.below.ensures.below c.if-below.true) x y v;
-          from_above = b.requires.4.from_above;
+          from_below = λ x y v h. below_is mid p.result.cn p.result.c p.result.sn p.result.s a.m a.e (stated mid p.result.cn p.result.c p.result.sn p.result.s i.most p.ensures.circle) (c.below.ensures.below c.if-below.true) x y v;
+          from_above = c.requires.4.from_above;
         };
       };
       value = rw (← c.circle-p.ensures.value, ← c.above.ensures.value, c.if-above.false, ← c.below.ensures.value, c.if-below.true);
@@ -108,12 +108,12 @@ returns-then-below c =
 pub overflow_add-mid-2 : goal.overflow_add-mid-2
 overflow_add-mid-2 c =
     let a = c.args in
-    record { fits = word (a.low + (a.up - a.low) / 2 + 2 ^ 16) (mid_of c.before).most-too }
+    record { fits = word (a.low + (a.up - a.low) / 2 + 2 ^ 16) (middle a.low a.up c.requires.0 c.requires.1).most_too }
 
 pub circle-q-requires : goal.circle-q-requires
 circle-q-requires c =
     let a = c.args in
-    (in_range (a.low + (a.up - a.low) / 2 + 2 ^ 16) (mid_of c.before).most-too, five)
+    (in_range (a.low + (a.up - a.low) / 2 + 2 ^ 16) (middle a.low a.up c.requires.0 c.requires.1).most_too, five)
 
 pub above-requires-2 : goal.above-requires-2
 above-requires-2 c = (c.requires.2, c.requires.3)
@@ -121,22 +121,22 @@ above-requires-2 c = (c.requires.2, c.requires.3)
 pub overflow_add-result : goal.overflow_add-result
 overflow_add-result c =
     let a = c.args in
-    record { fits = word (a.low + (a.up - a.low) / 2 + 2 ^ 16) (mid_of c.before).most-too }
+    record { fits = word (a.low + (a.up - a.low) / 2 + 2 ^ 16) (middle a.low a.up c.requires.0 c.requires.1).most_too }
 
 pub returns-then-above-2 : goal.returns-then-above-2
 unfolding ArctangentValues.halved
 returns-then-above-2 c =
-    let b = c.before in
-    let a = b.args in
+    let a = c.args in
     let mid = a.low + (a.up - a.low) / 2 in
+    let i = middle a.low a.up c.requires.0 c.requires.1 in
     let q = c.circle-q in record {
       halved = record {
-        order = over_far a.low a.up mid (mid_of b);
-        upto = (mid_of b).most-too;
-        closer = closer_far a.low a.up mid (mid_of b);
+        order = over_far a.low a.up mid i;
+        upto = i.most_too;
+        closer = closer_far a.low a.up mid i;
         bounds = record {
-          from_below = b.requires.4.from_below;
-          from_above = above_is (mid + 2 ^ 16) q.result.cn q.result.c q.result.sn q.result.s a.m a.e (stated (mid + 2 ^ 16) q.result.cn q.result.c q.result.sn q.result.s (mid_of b).most-too q.ensures.circle) (c.above-2.ensures.above c.if-above-2.true);
+          from_below = c.requires.4.from_below;
+          from_above = above_is (mid + 2 ^ 16) q.result.cn q.result.c q.result.sn q.result.s a.m a.e (stated (mid + 2 ^ 16) q.result.cn q.result.c q.result.sn q.result.s i.most_too q.ensures.circle) (c.above-2.ensures.above c.if-above-2.true);
         };
       };
       value = rw (← c.circle-p.ensures.value, ← c.above.ensures.value, c.if-above.false, ← c.below.ensures.value, c.if-below.false, ← c.circle-q.ensures.value, ← c.above-2.ensures.value, c.if-above-2.true);
@@ -145,18 +145,17 @@ returns-then-above-2 c =
 -- never: both tests unsure at the middle, and the third beside it
 pub returns : goal.returns
 returns c =
-    let b = c.before in
-    let a = b.args in
+    let a = c.args in
     let mid = a.low + (a.up - a.low) / 2 in
+    let i = middle a.low a.up c.requires.0 c.requires.1 in
     let p = c.circle-p in
     let q = c.circle-q in
     let r = p.result in
     let w = q.result in
-    let g = good_of mid r.cn r.c r.sn r.s (mid_of b).most p.ensures.circle p.ensures.c_bound.0 p.ensures.c_bound.1 in
-    let g' = good_of (mid + 2 ^ 16) w.cn w.c w.sn w.s (mid_of b).most-too q.ensures.circle q.ensures.c_bound.0 q.ensures.c_bound.1 in
-    let the_all = absurd
-    (distinct mid r.cn r.c r.sn r.s w.cn w.c w.sn w.s a.m a.e (mid_of b).most-too p.ensures.circle q.ensures.circle g
+    let g = good_of mid r.cn r.c r.sn r.s i.most p.ensures.circle p.ensures.bounds.0 p.ensures.bounds.1 in
+    let g' = good_of (mid + 2 ^ 16) w.cn w.c w.sn w.s i.most_too q.ensures.circle q.ensures.bounds.0 q.ensures.bounds.1 in
+    absurd
+    (distinct mid r.cn r.c r.sn r.s w.cn w.c w.sn w.s a.m a.e i.most_too p.ensures.circle q.ensures.circle g
     (c.above-2.ensures.nearly_below c.if-above-2.false g')
     (c.below.ensures.nearly_above c.if-below.false g)
-    (c.above.ensures.nearly_below c.if-above.false g)) in
-    record { halved = the_all.0; value = the_all.1 }
+    (c.above.ensures.nearly_below c.if-above.false g))

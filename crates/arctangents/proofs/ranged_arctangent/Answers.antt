@@ -13,7 +13,7 @@ use Rattle.arctangents.proofs.ranged_arctangent.Goals as goal
 
 pub arctangent_above_zero-requires : goal.arctangent_above_zero-requires
 unfolding of_bits
-arctangent_above_zero-requires c = record { fact_1 = subst T (sym c.if-x.true) tt; fact_2 = c.requires.fact_2 }
+arctangent_above_zero-requires c = record { above_zero = subst T (sym c.if-x.true) tt; finite = c.requires.finite }
 
 pub returns-then-x : goal.returns-then-x
 unfolding ArctangentValues.ranged_arctangent
@@ -23,9 +23,9 @@ pub returns-else-x : goal.returns-else-x
 unfolding ArctangentValues.ranged_arctangent of_bits
 returns-else-x c =
     let x = c.args.x in
-    let z = is_zero x c.requires.fact_1 c.if-x.false in
-    let w = whole_zero x c.requires.fact_1 c.requires.fact_2 c.if-x.false in (
-      record {
+    let z = is_zero x c.requires.not_negative c.if-x.false in
+    let w = whole_zero x c.requires.not_negative c.requires.finite c.if-x.false in record {
+      arctangent = record {
         number = w.number;
         not_negative = w.none;
         low = 0;
@@ -36,9 +36,9 @@ returns-else-x c =
         up_upto_two = leb→le (2 ^ 18) (2 ^ 59) tt;
         from_below = λ h. absurd (lt_irrefl 0 h);
         from_above = λ n l. subst (λ (a : ℕ). NotBelow a (den x) (2 ^ 18) (2 ^ 58) n) (sym z) (zero_is (den x) n l);
-      },
-      rw c.if-x.false,
-    )
+      };
+      value = rw c.if-x.false;
+    }
   where
     more : (a b : ℕ) → a ≤ b + a
     more a b = omega arith

@@ -63,4 +63,4 @@ returns c =
     let n = b.args.doublings in
     let e = last l.j n l.invariant.0 c.loop-j-test.false in
     let f = subst (λ (j : ℕ). Follows y j l.cn l.c l.sn l.s) e l.invariant.1 in
-    record { circle = follows_last y n l.cn l.c l.sn l.s b.requires.1 f; c_bound = (size_most l.c l.s n b.requires.1 f.size, size_most l.s l.c n b.requires.1 (le_trans (le_of_eq (add_comm (l.s * l.s) (l.c * l.c))) f.size)); value = rw (← e) (sym l.invariant.2) }
+    record { circle = follows_last y n l.cn l.c l.sn l.s b.requires.1 f; bounds = (size_most l.c l.s n b.requires.1 f.size, size_most l.s l.c n b.requires.1 (le_trans (le_of_eq (add_comm (l.s * l.s) (l.c * l.c))) f.size)); value = rw (← e) (sym l.invariant.2) }

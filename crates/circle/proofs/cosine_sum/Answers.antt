@@ -48,4 +48,4 @@ horner-requires c = ((at_2 c).most, c.requires, leb→le 2 2 tt)
 
 pub returns : goal.returns
 unfolding CircleValues.cosine_sum
-returns c = record { cosine_sum = taken_of c.args.q c.horner-g4.result c.horner-g2.result c.horner.result (at_4 c.before).most c.horner-g2.ensures.horner c.horner.ensures.horner (at_0 c); value = rw (c.horner.ensures.value, c.horner-g2.ensures.value, c.horner-g4.ensures.value, c.horner-g6.ensures.value, c.horner-g8.ensures.value, c.horner-g10.ensures.value) }
+returns c = record { cosine_sum = taken_of c.args.q c.horner-g4.result c.horner-g2.result c.horner.result (at_4 c.before.before).most c.horner-g2.ensures.horner c.horner.ensures.horner (at_0 c); value = rw (c.horner.ensures.value, c.horner-g2.ensures.value, c.horner-g4.ensures.value, c.horner-g6.ensures.value, c.horner-g8.ensures.value, c.horner-g10.ensures.value) }

@@ -24,7 +24,7 @@ pub high-ss-requires : goal.high-ss-requires
 high-ss-requires c = (second_small c.before, second_small c.before)
 
 pub high-cs-requires : goal.high-cs-requires
-high-cs-requires c = (first_small c.before, second_small c.before)
+high-cs-requires c = (first_small c.before.before, second_small c.before.before)
 
 pub overflow_sub-result : goal.overflow_sub-result
 overflow_sub-result c = le_of_lt c.if-cc-ss.true

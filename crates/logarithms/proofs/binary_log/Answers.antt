@@ -1,11 +1,10 @@
--- `logarithms::binary_log` meets its contract. The loop's invariant is `Close`. Assumes nothing.
+-- `logarithms::binary_log` meets its contract. Assumes nothing.
 use mathlib.Core.Path.{◌≡◌, refl, ap, ◌∙◌}
-use Prim.Native.Nat.{ℕ, ◌*◌, ◌-◌, ◌^◌, ◌≤◌, ◌<◌}
+use Prim.Native.Nat.{ℕ, ◌*◌, ◌^◌, ◌≤◌, ◌<◌}
 use native.Mathlib.Omega.{arith}
-use borrow.Author.Rules.{rules}
 use native.Mathlib.Numerals.{add-one}
 use Rattle.logarithms.specs.Inside.LogarithmValues.{turned, binary_log}
-use Rattle.logarithms.proofs.Squaring.{Close, turn, close_first, close_next, close_last, square_in, few}
+use Rattle.logarithms.proofs.Squaring.{turn, close_first, close_next, close_last, square_in, few}
 use Rattle.logarithms.proofs.binary_log.Goals as goal
 use Rattle.logarithms.proofs.binary_log.Goals.{In-loop-i}
 

@@ -1,11 +1,8 @@
--- `logarithms::binary_log` meets its contract. The loop's invariant is `Close`. Assumes nothing.
-use mathlib.Core.Path.{◌≡◌, refl, ap, ◌∙◌}
-use Prim.Native.Nat.{ℕ, ◌*◌, ◌-◌, ◌^◌, ◌≤◌, ◌<◌}
-use native.Mathlib.Omega.{arith}
-use borrow.Author.Rules.{rules}
-use native.Mathlib.Numerals.{add-one}
-use Rattle.logarithms.specs.Inside.LogarithmValues.{turned, binary_log}
-use Rattle.logarithms.proofs.Squaring.{Close, turn, close_first, close_next, close_last, square_in, few}
+-- The loop of `logarithms::binary_log`.
+use mathlib.Core.Path.{◌≡◌}
+use Prim.Native.Nat.{◌-◌, ◌≤◌}
+use Rattle.logarithms.specs.Inside.LogarithmValues.{turned}
+use Rattle.logarithms.proofs.Squaring.{Close}
 use Rattle.logarithms.proofs.binary_log.Given as goal
 
 abbrev pub invariant-loop-i : goal.invariant-loop-i

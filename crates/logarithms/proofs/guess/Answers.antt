@@ -1,11 +1,11 @@
 -- `logarithms::guess` meets its contract. Assumes nothing.
-use mathlib.Core.Logic.{⊎_elim}
 use Prim.Native.Nat.{◌^◌}
 use native.Mathlib.Nat.{le_of_lt}
 use lib.Dec.{le→leb}
 use lib.Ieee.{in_float}
 use Rattle.logarithms.specs.Inside.LogarithmValues.{guess_of, guess}
 use Rattle.logarithms.proofs.guess.Goals as goal
+use Rattle.logarithms.proofs.guess.Goals.{then-f, else-f}
 
 pub int_to_float-f : goal.int_to_float-f
 unfolding in_float
@@ -17,4 +17,4 @@ int_to_float-n c = le→leb c.args.e (2 ^ 53) (le_of_lt c.requires.1)
 
 pub returns : goal.returns
 unfolding guess guess_of
-returns c = ⊎_elim (λ way. rw (way.1, way.2, way.0.taken)) (λ way. rw (way.1, way.2, way.0.left)) c.if-f.branch
+returns c = elim c.if-f.branch [ then-f w ↦ rw (w.f-is, w.n-is, w.if-f.true) | else-f w ↦ rw (w.f-is, w.n-is, w.if-f.false) ]

@@ -8,7 +8,7 @@ use Rattle.logarithms.proofs.log10.Goals as goal
 
 pub log_above_zero-requires : goal.log_above_zero-requires
 unfolding of_bits div
-log_above_zero-requires c = record { fact_1 = subst T (sym c.if-x.true) tt; fact_2 = subst T (sym c.if-x-2.true) tt }
+log_above_zero-requires c = record { above_zero = subst T (sym c.if-x.true) tt; finite = subst T (sym c.if-x-2.true) tt }
 
 pub returns-then-x-2 : goal.returns-then-x-2
 unfolding log10 of_bits div

@@ -2,7 +2,6 @@
 use mathlib.Core.Path.{◌∙◌}
 use Prim.Native.Nat.{ℕ, ◌+◌, ◌-◌, ◌^◌, ◌≤◌, ◌<◌}
 use native.Mathlib.Omega.{arith}
-use borrow.Author.Rules.{rules}
 use borrow.Author.Tests.{lt-ltb, le-ltb}
 use Rattle.logarithms.specs.Inside.LogarithmValues.{log_above_zero}
 use Rattle.circle.proofs.fixed.Order.{above_of}
@@ -17,7 +16,7 @@ last : (n : ℕ) → n ≤ n - 1 + 1
 last n = omega arith
 
 pub unpack-s-requires : goal.unpack-s-requires
-unpack-s-requires c = above_of c.args.x c.requires.fact_1 c.requires.fact_2
+unpack-s-requires c = above_of c.args.x c.requires.above_zero c.requires.finite
 
 pub overflow_mul-t : goal.overflow_mul-t
 overflow_mul-t c = omega (arith, c.unpack-s.ensures.unpacked.upto)

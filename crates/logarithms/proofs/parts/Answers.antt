@@ -5,7 +5,6 @@ use native.Mathlib.Omega.{arith}
 use lib.Dec.{leb→le}
 use lib.IntN.{pos}
 use lib.Ieee.{binary64, fin, of_bits, of_int}
-use borrow.Author.Rules.{rules}
 use Rattle.logarithms.specs.Inside.LogarithmValues.{parts}
 use Rattle.circle.proofs.fixed.Exactly.{whole, over_power}
 use Rattle.logarithms.proofs.parts.Goals as goal

@@ -1,6 +1,5 @@
 -- `logarithms::ten_log` meets its contract. Assumes nothing.
 use mathlib.Core.Path.{refl}
-use borrow.Author.Rules.{rules}
 use Rattle.logarithms.specs.Inside.LogarithmValues.{ten_log}
 use Rattle.logarithms.proofs.Tens.{ten_log_is}
 use Rattle.logarithms.proofs.ten_log.Goals as goal

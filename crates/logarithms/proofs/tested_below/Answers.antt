@@ -2,7 +2,6 @@
 use mathlib.Core.Path.{subst}
 use Prim.Native.Nat.{ℕ, ◌+◌, ◌-◌, ◌^◌, ◌≤◌}
 use native.Mathlib.Omega.{arith}
-use borrow.Author.Rules.{rules}
 use lib.Ieee.{neg}
 use Rattle.circle.specs.Inside.Fixed.{IsDifference}
 use Rattle.logarithms.specs.Inside.LogarithmValues.{tested_below}
@@ -28,6 +27,6 @@ returns c =
       lies = lies_of (neg l.result) (neg u.result) c.guarded.result 0 (n + 3) 0 (n - 1) (2 ^ 22)
           (difference_less (neg l.result) (n + 3) (2 ^ 22) (negated l.result (n + 3) (2 ^ 22) l.ensures.has_value))
           (subst (λ (k : ℕ). IsDifference (neg u.result) 0 k (2 ^ 22)) c.one_less.ensures (difference_less (neg u.result) c.one_less.result (2 ^ 22) (negated u.result c.one_less.result (2 ^ 22) u.ensures.has_value)))
-          (order n) c.guarded.ensures.fact;
+          (order n) c.guarded.ensures.low_or_within;
       value = rw (c.guarded.ensures.value, l.ensures.value, u.ensures.value, c.one_less.ensures);
     }

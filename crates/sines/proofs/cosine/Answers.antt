@@ -10,11 +10,11 @@ use Rattle.sines.proofs.cosine.Goals as goal
 
 pub ranged_cosine-requires : goal.ranged_cosine-requires
 unfolding of_bits
-ranged_cosine-requires c = record { fact_1 = subst T (sym c.if-x.true) tt; fact_2 = subst T (sym c.if-x-2.true) tt }
+ranged_cosine-requires c = record { least = subst T (sym c.if-x.true) tt; most = subst T (sym c.if-x-2.true) tt }
 
 pub returns-then-x-2 : goal.returns-then-x-2
 unfolding of_bits SineValues.cosine
-returns-then-x-2 c = record { cosine = record { near = λ t. c.ranged_cosine.ensures.cosine; tiny = λ t k. c.ranged_cosine.ensures.value k; outside = λ t. absurd (inside _ _ c.if-x.true c.if-x-2.true t) }; value = rw (c.if-x.true, c.if-x-2.true, c.ranged_cosine.ensures.value_2) }
+returns-then-x-2 c = record { cosine = record { near = λ t. c.ranged_cosine.ensures.cosine; tiny = λ t k. c.ranged_cosine.ensures.tiny k; outside = λ t. absurd (inside _ _ c.if-x.true c.if-x-2.true t) }; value = rw (c.if-x.true, c.if-x-2.true, c.ranged_cosine.ensures.value) }
 
 pub returns-else-x-2 : goal.returns-else-x-2
 unfolding of_bits div SineValues.cosine

@@ -4,7 +4,6 @@ use Prim.Native.Nat.{ℕ, ◌+◌, ◌*◌, ◌^◌, ◌/◌, ◌≤◌, ◌<◌
 use native.Mathlib.Nat.{le_trans, le_of_eq, mul-le-mul_right, le-suc}
 use native.Mathlib.Omega.{arith}
 use lib.Ieee.Positive.{num, den, den_pos}
-use borrow.Author.Rules.{rules}
 use Rattle.circle.specs.Series.{north, south, part, term}
 use Rattle.sines.specs.Inside.SineValues as SineValues
 use Rattle.circle.proofs.Follows.{whole_circle}
@@ -13,7 +12,7 @@ use Rattle.sines.proofs.Range.{positive_of, at_least, at_most}
 use Rattle.sines.proofs.far_sine.Goals as goal
 
 pub tested-requires : goal.tested-requires
-tested-requires c = small c.circle-p.result.s c.circle-p.ensures.c_bound.1
+tested-requires c = small c.circle-p.result.s c.circle-p.ensures.bounds.1
   where
     small : (n : ℕ) → n ≤ 9 * 2 ^ 60 → n / 2 ^ 11 + 1024 < 2 ^ 53
     small n h = omega arith
@@ -27,7 +26,7 @@ returns c =
     let p = c.circle-p.result in record {
       sine = λ n l.
           let w = within_of c.tested.result p.s (part (term (num x) (den x) n) n north) (part (term (num x) (den x) n) n south) (term (num x) (den x) n 0) p.sn c.tested.ensures.lies
-          (whole_circle y p.cn p.c p.sn p.s c.circle-p.ensures.circle (num x) (den x) n (den_pos x) (at_most x s.requires.fact_2 (positive_of x s.requires.fact_1 s.requires.fact_2)) (le_of_eq c.scaled.ensures.upper_bound.1) (le_trans (le_of_eq (sym c.scaled.ensures.upper_bound.1)) (mul-le-mul_right (den x) (le-suc y))) l).sine in
-          (w, wider c.tested.result (part (term (num x) (den x) n) n north) (part (term (num x) (den x) n) n south) (term (num x) (den x) n 0) (num x) (den x) (at_least x s.requires.fact_1 (positive_of x s.requires.fact_1 s.requires.fact_2)) w);
+          (whole_circle y p.cn p.c p.sn p.s c.circle-p.ensures.circle (num x) (den x) n (den_pos x) (at_most x s.requires.most (positive_of x s.requires.least s.requires.most)) (le_of_eq c.scaled.ensures.exact.1) (le_trans (le_of_eq (sym c.scaled.ensures.exact.1)) (mul-le-mul_right (den x) (le-suc y))) l).sine in
+          (w, wider c.tested.result (part (term (num x) (den x) n) n north) (part (term (num x) (den x) n) n south) (term (num x) (den x) n 0) (num x) (den x) (at_least x s.requires.least (positive_of x s.requires.least s.requires.most)) w);
       value = rw (c.tested.ensures.value, c.guess.ensures, c.circle-p.ensures.value, c.scaled.ensures.value);
     }

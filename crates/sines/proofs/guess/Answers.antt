@@ -1,5 +1,4 @@
 -- `sines::guess` meets its contract. Assumes nothing.
-use borrow.Author.Rules.{rules}
 use borrow.Author.Tests.{eq-eqb, ne_eqb}
 use Rattle.sines.specs.Inside.SineValues as SineValues
 use Rattle.sines.proofs.guess.Goals as goal

@@ -4,7 +4,6 @@ use lib.Dec.{T}
 use lib.IntN.{pos, negsuc}
 use lib.Ieee.{of_bits}
 use lib.Ieee.Positive.{num, den, den_pos}
-use borrow.Author.Rules.{rules}
 use Rattle.sines.specs.Inside.SineValues as SineValues
 use Rattle.sines.proofs.small.Low.{one_is}
 use Rattle.circle.proofs.fixed.Zero.{clash}
@@ -16,20 +15,20 @@ unfolding of_bits SineValues.ranged_cosine
 returns-then-x c =
     let x = c.args.x in
     let t = subst T (sym c.if-x.true) tt in
-    record { cosine = λ n l. one_is (num x) (den x) n (den_pos x) (tiny_of x c.requires.fact_1 t) l; value = λ k. refl; value_2 = rw c.if-x.true }
+    record { cosine = λ n l. one_is (num x) (den x) n (den_pos x) (tiny_of x c.requires.least t) l; tiny = λ k. refl; value = rw c.if-x.true }
 
 pub low_cosine-requires : goal.low_cosine-requires
 unfolding of_bits
-low_cosine-requires c = record { fact_1 = from_of c.args.x 0 (negsuc 26) c.requires.fact_1 c.if-x.false; fact_2 = subst T (sym c.if-x-2.true) tt }
+low_cosine-requires c = record { least = from_of c.args.x 0 (negsuc 26) c.requires.least c.if-x.false; most = subst T (sym c.if-x-2.true) tt }
 
 pub returns-then-x-2 : goal.returns-then-x-2
 unfolding of_bits SineValues.ranged_cosine
-returns-then-x-2 c = record { cosine = c.low_cosine.ensures.cosine; value = λ k. absurd (clash _ c.if-x.false k); value_2 = rw (c.if-x.false, c.if-x-2.true, c.low_cosine.ensures.value, c.guess.ensures) }
+returns-then-x-2 c = record { cosine = c.low_cosine.ensures.cosine; tiny = λ k. absurd (clash _ c.if-x.false k); value = rw (c.if-x.false, c.if-x-2.true, c.low_cosine.ensures.value, c.guess.ensures) }
 
 pub far_cosine-requires : goal.far_cosine-requires
 unfolding of_bits
-far_cosine-requires c = record { fact_1 = from_of c.args.x 0 (pos 0) c.requires.fact_1 c.if-x-2.false; fact_2 = c.requires.fact_2 }
+far_cosine-requires c = record { least = from_of c.args.x 0 (pos 0) c.requires.least c.if-x-2.false; most = c.requires.most }
 
 pub returns : goal.returns
 unfolding of_bits SineValues.ranged_cosine
-returns c = record { cosine = c.far_cosine.ensures.cosine; value = λ k. absurd (clash _ c.if-x.false k); value_2 = rw (c.if-x.false, c.if-x-2.false, c.far_cosine.ensures.value) }
+returns c = record { cosine = c.far_cosine.ensures.cosine; tiny = λ k. absurd (clash _ c.if-x.false k); value = rw (c.if-x.false, c.if-x-2.false, c.far_cosine.ensures.value) }

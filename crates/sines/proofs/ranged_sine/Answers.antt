@@ -6,7 +6,6 @@ use lib.Dec.{T}
 use lib.IntN.{pos, negsuc}
 use lib.Ieee.{of_bits}
 use lib.Ieee.Positive.{num, den, den_pos}
-use borrow.Author.Rules.{rules}
 use Rattle.sines.specs.Inside.SineValues as SineValues
 use Rattle.sines.proofs.small.Low.{own_is, narrower}
 use Rattle.circle.proofs.fixed.Zero.{clash}
@@ -21,20 +20,20 @@ unfolding of_bits SineValues.ranged_sine
 returns-then-x c =
     let x = c.args.x in
     let t = subst T (sym c.if-x.true) tt in
-    record { sine = λ n l. let w = own_is x n (whole_of x c.requires.fact_1 t) (tiny_of x c.requires.fact_1 t) l in (narrower x _ _ _ (num x) (den x) (den_pos x) (under (num x) (den x) (tiny_of x c.requires.fact_1 t)) w, w); value = λ k. refl; value_2 = rw c.if-x.true }
+    record { sine = λ n l. let w = own_is x n (whole_of x c.requires.least t) (tiny_of x c.requires.least t) l in (narrower x _ _ _ (num x) (den x) (den_pos x) (under (num x) (den x) (tiny_of x c.requires.least t)) w, w); tiny = λ k. refl; value = rw c.if-x.true }
 
 pub low_sine-requires : goal.low_sine-requires
 unfolding of_bits
-low_sine-requires c = record { fact_1 = from_of c.args.x 0 (negsuc 26) c.requires.fact_1 c.if-x.false; fact_2 = subst T (sym c.if-x-2.true) tt }
+low_sine-requires c = record { least = from_of c.args.x 0 (negsuc 26) c.requires.least c.if-x.false; most = subst T (sym c.if-x-2.true) tt }
 
 pub returns-then-x-2 : goal.returns-then-x-2
 unfolding of_bits SineValues.ranged_sine
-returns-then-x-2 c = record { sine = c.low_sine.ensures.sine; value = λ k. absurd (clash _ c.if-x.false k); value_2 = rw (c.if-x.false, c.if-x-2.true, c.low_sine.ensures.value, c.guess.ensures) }
+returns-then-x-2 c = record { sine = c.low_sine.ensures.sine; tiny = λ k. absurd (clash _ c.if-x.false k); value = rw (c.if-x.false, c.if-x-2.true, c.low_sine.ensures.value, c.guess.ensures) }
 
 pub far_sine-requires : goal.far_sine-requires
 unfolding of_bits
-far_sine-requires c = record { fact_1 = from_of c.args.x 0 (pos 0) c.requires.fact_1 c.if-x-2.false; fact_2 = c.requires.fact_2 }
+far_sine-requires c = record { least = from_of c.args.x 0 (pos 0) c.requires.least c.if-x-2.false; most = c.requires.most }
 
 pub returns : goal.returns
 unfolding of_bits SineValues.ranged_sine
-returns c = record { sine = c.far_sine.ensures.sine; value = λ k. absurd (clash _ c.if-x.false k); value_2 = rw (c.if-x.false, c.if-x-2.false, c.far_sine.ensures.value) }
+returns c = record { sine = c.far_sine.ensures.sine; tiny = λ k. absurd (clash _ c.if-x.false k); value = rw (c.if-x.false, c.if-x-2.false, c.far_sine.ensures.value) }

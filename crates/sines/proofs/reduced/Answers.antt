@@ -1,6 +1,5 @@
 -- `sines::reduced` meets its contract. Assumes nothing.
 use lib.Ieee.{of_bits, of_int}
-use borrow.Author.Rules.{rules}
 use Rattle.sines.specs.Inside.SineValues as SineValues
 use Rattle.sines.proofs.reduced.Goals as goal
 

@@ -10,14 +10,14 @@ use Rattle.sines.proofs.scaled.Goals as goal
 use Rattle.sines.proofs.scaled.Goals.{After-unpack-s, Start}
 
 above : (c : Start) → T (positive c.args.x)
-above c = positive_of c.args.x c.requires.fact_1 c.requires.fact_2
+above c = positive_of c.args.x c.requires.least c.requires.most
 
 facts : (c : After-unpack-s) → Scaled (num c.args.x) (den c.args.x) c.unpack-s.result.m c.unpack-s.result.e
 facts c =
     let x = c.args.x in
     let m = c.unpack-s.result.m in
     let e = c.unpack-s.result.e in
-    scaled_of (num x) (den x) m e (den_pos x) (at_least x c.requires.fact_1 (above c.before)) (at_most x c.requires.fact_2 (above c.before)) c.unpack-s.ensures.unpacked.least c.unpack-s.ensures.unpacked.most c.unpack-s.ensures.unpacked.value
+    scaled_of (num x) (den x) m e (den_pos x) (at_least x c.requires.least (above c.before)) (at_most x c.requires.most (above c.before)) c.unpack-s.ensures.unpacked.least c.unpack-s.ensures.unpacked.most c.unpack-s.ensures.unpacked.value
 
 pub unpack-s-requires : goal.unpack-s-requires
 unpack-s-requires c = above c
@@ -33,4 +33,4 @@ unfolding SineValues.scaled
 returns c =
     let f = facts c in
     let same = fits_of (c.unpack-s.result.m * 2 ^ (c.unpack-s.result.e - 2096)) f.most in
-    record { upper_bound = (le_trans (le_of_eq same) f.most, ap (λ (z : ℕ). z * den c.args.x) same ∙ f.value); value = same ∙ rw c.unpack-s.ensures.value }
+    record { exact = (le_trans (le_of_eq same) f.most, ap (λ (z : ℕ). z * den c.args.x) same ∙ f.value); value = same ∙ rw c.unpack-s.ensures.value }

@@ -10,11 +10,11 @@ use Rattle.sines.proofs.sine.Goals as goal
 
 pub ranged_sine-requires : goal.ranged_sine-requires
 unfolding of_bits
-ranged_sine-requires c = record { fact_1 = subst T (sym c.if-x.true) tt; fact_2 = subst T (sym c.if-x-2.true) tt }
+ranged_sine-requires c = record { least = subst T (sym c.if-x.true) tt; most = subst T (sym c.if-x-2.true) tt }
 
 pub returns-then-x-2 : goal.returns-then-x-2
 unfolding of_bits SineValues.sine
-returns-then-x-2 c = record { sine = record { near = λ t. c.ranged_sine.ensures.sine; tiny = λ t k. c.ranged_sine.ensures.value k; outside = λ t. absurd (inside _ _ c.if-x.true c.if-x-2.true t) }; value = rw (c.if-x.true, c.if-x-2.true, c.ranged_sine.ensures.value_2) }
+returns-then-x-2 c = record { sine = record { near = λ t. c.ranged_sine.ensures.sine; tiny = λ t k. c.ranged_sine.ensures.tiny k; outside = λ t. absurd (inside _ _ c.if-x.true c.if-x-2.true t) }; value = rw (c.if-x.true, c.if-x-2.true, c.ranged_sine.ensures.value) }
 
 pub returns-else-x-2 : goal.returns-else-x-2
 unfolding of_bits div SineValues.sine

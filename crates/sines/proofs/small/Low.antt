@@ -13,7 +13,6 @@ use Rattle.circle.specs.Series.{term}
 use Rattle.circle.specs.Within.{Within}
 use Rattle.circle.specs.Within as C
 use Rattle.circle.specs.Inside.Fixed.{Apart, IsHigh, Lies}
-use Rattle.circle.specs.Inside.Signed.{plus, less}
 use Rattle.circle.specs.Inside.Horner.{IsRoot, Alternating}
 use Rattle.sines.specs.Inside.Small.{IsSplit}
 use Rattle.circle.proofs.Terms.{term_law}

@@ -7,12 +7,12 @@ use Rattle.circle.proofs.fixed.guarded.Goals as goal
 
 pub returns-then-guess-high : goal.returns-then-guess-high
 unfolding guarded
-returns-then-guess-high c = record { fact = inr (subst T (sym c.if-low-guess.true) tt, subst T (sym c.if-guess-high.true) tt); value = rw (c.if-low-guess.true, c.if-guess-high.true) }
+returns-then-guess-high c = record { low_or_within = inr (subst T (sym c.if-low-guess.true) tt, subst T (sym c.if-guess-high.true) tt); value = rw (c.if-low-guess.true, c.if-guess-high.true) }
 
 pub returns-else-guess-high : goal.returns-else-guess-high
 unfolding guarded
-returns-else-guess-high c = record { fact = inl refl; value = rw (c.if-low-guess.true, c.if-guess-high.false) }
+returns-else-guess-high c = record { low_or_within = inl refl; value = rw (c.if-low-guess.true, c.if-guess-high.false) }
 
 pub returns-else-low-guess : goal.returns-else-low-guess
 unfolding guarded
-returns-else-low-guess c = record { fact = inl refl; value = rw c.if-low-guess.false }
+returns-else-low-guess c = record { low_or_within = inl refl; value = rw c.if-low-guess.false }

@@ -1,7 +1,6 @@
 -- `fixed::horner` meets its contract. Assumes nothing.
 use Prim.Native.Nat.{◌-◌, ◌^◌, ◌/◌, ◌≤◌}
 use native.Mathlib.Omega.{arith}
-use borrow.Author.Rules.{rules}
 use Rattle.circle.specs.Inside.Horner.{IsHorner}
 use Rattle.circle.specs.Inside.FixedValues.{horner}
 use Rattle.circle.proofs.Alternate.{is_horner}

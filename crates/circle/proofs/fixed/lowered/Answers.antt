@@ -3,7 +3,6 @@ use mathlib.Core.Path.{◌≡◌, refl, ap, ◌∙◌}
 use Prim.Native.Nat.{ℕ, ◌+◌, ◌-◌, ◌*◌, ◌^◌, ◌≤◌, ◌<◌}
 use native.Mathlib.Nat.{add-mul}
 use native.Mathlib.Omega.{arith}
-use borrow.Author.Rules.{rules}
 use borrow.Author.Tests.{lt-ltb, le-ltb}
 use lib.Ieee.{Float, neg}
 use lib.Ieee.Positive.{den}
@@ -31,7 +30,7 @@ pub returns-then-n-lt1024 : goal.returns-then-n-lt1024
 unfolding lowered
 returns-then-n-lt1024 c =
     let n = c.args.n in
-    (both_more (neg c.parts.result) 0 (1024 - n) n (2 ^ 52) n 1024 (none n) (sums n c.if-n-lt1024.true) (difference_less (neg c.parts.result) (1024 - n) (2 ^ 52) (negated c.parts.result (1024 - n) (2 ^ 52) c.parts.ensures.has_value)), rw (lt-ltb _ _ c.if-n-lt1024.true, c.parts.ensures.value))
+    record { difference = both_more (neg c.parts.result) 0 (1024 - n) n (2 ^ 52) n 1024 (none n) (sums n c.if-n-lt1024.true) (difference_less (neg c.parts.result) (1024 - n) (2 ^ 52) (negated c.parts.result (1024 - n) (2 ^ 52) c.parts.ensures.has_value)); value = rw (lt-ltb _ _ c.if-n-lt1024.true, c.parts.ensures.value) }
   where
     none : (n : ℕ) → n ≡ 0 + n
     none n = omega arith
@@ -49,7 +48,7 @@ pub returns : goal.returns
 unfolding lowered
 returns c =
     let n = c.args.n in
-    (both_more c.parts-2.result (n - 1024) 0 1024 (2 ^ 52) n 1024 (sums n c.if-n-lt1024.false) refl (difference_more c.parts-2.result (n - 1024) (2 ^ 52) c.parts-2.ensures.has_value), rw (le-ltb _ _ c.if-n-lt1024.false, c.parts-2.ensures.value))
+    record { difference = both_more c.parts-2.result (n - 1024) 0 1024 (2 ^ 52) n 1024 (sums n c.if-n-lt1024.false) refl (difference_more c.parts-2.result (n - 1024) (2 ^ 52) c.parts-2.ensures.has_value); value = rw (le-ltb _ _ c.if-n-lt1024.false, c.parts-2.ensures.value) }
   where
     sums : (n : ℕ) → 1024 ≤ n → n ≡ n - 1024 + 1024
     sums n h = omega arith

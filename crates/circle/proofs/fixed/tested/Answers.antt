@@ -2,7 +2,6 @@
 use mathlib.Core.Path.{◌≡◌, refl, sym, subst}
 use Prim.Native.Nat.{ℕ, zero, suc, ◌+◌, ◌^◌, ◌≤◌, ◌<◌}
 use native.Mathlib.Omega.{arith}
-use borrow.Author.Rules.{rules}
 use borrow.Author.Tests.{eq-eqb, ne_eqb}
 use lib.Ieee.{Float, neg}
 use Rattle.circle.specs.Inside.Fixed.{Lies}
@@ -37,7 +36,7 @@ returns-then-sign-eq0 c =
     let a = c.args in
     let n = a.n in record {
       lies = subst (λ (k : ℕ). Lies c.guarded.result (plus k n) (less k n + 1024) (plus k n + 1024) (less k n) (2 ^ 52)) (sym c.if-sign-eq0.true)
-          (lies_of c.lowered.result c.parts.result c.guarded.result n 1024 (n + 1024) 0 (2 ^ 52) c.lowered.ensures.difference (difference_more c.parts.result (n + 1024) (2 ^ 52) c.parts.ensures.has_value) (order n) c.guarded.ensures.fact);
+          (lies_of c.lowered.result c.parts.result c.guarded.result n 1024 (n + 1024) 0 (2 ^ 52) c.lowered.ensures.difference (difference_more c.parts.result (n + 1024) (2 ^ 52) c.parts.ensures.has_value) (order n) c.guarded.ensures.low_or_within);
       value = rw (c.guarded.ensures.value, eq-eqb _ _ c.if-sign-eq0.true, c.parts.ensures.value, c.lowered.ensures.value);
     }
 
@@ -55,6 +54,6 @@ returns c =
     let p = c.parts-2 in
     let l = c.lowered-2 in record {
       lies = minus a.sign n c.guarded-2.result c.if-sign-eq0.false
-          (lies_of (neg p.result) (neg l.result) c.guarded-2.result 0 (n + 1024) 1024 n (2 ^ 52) (difference_less (neg p.result) (n + 1024) (2 ^ 52) (negated p.result (n + 1024) (2 ^ 52) p.ensures.has_value)) (opposite l.result n 1024 (2 ^ 52) l.ensures.difference) (order_2 n) c.guarded-2.ensures.fact);
+          (lies_of (neg p.result) (neg l.result) c.guarded-2.result 0 (n + 1024) 1024 n (2 ^ 52) (difference_less (neg p.result) (n + 1024) (2 ^ 52) (negated p.result (n + 1024) (2 ^ 52) p.ensures.has_value)) (opposite l.result n 1024 (2 ^ 52) l.ensures.difference) (order_2 n) c.guarded-2.ensures.low_or_within);
       value = rw (c.guarded-2.ensures.value, ne_eqb _ _ c.if-sign-eq0.false, p.ensures.value, l.ensures.value);
     }

@@ -2,7 +2,6 @@
 use Prim.Native.Nat.{ℕ, ◌+◌, ◌-◌, ◌^◌, ◌/◌, ◌≤◌, ◌<◌}
 use native.Mathlib.Omega.{arith}
 use lib.Ieee.Positive.{num, den, den_pos}
-use borrow.Author.Rules.{rules}
 use Rattle.sines.specs.Inside.SmallValues as SmallValues
 use Rattle.sines.proofs.small.Low.{cosine_low}
 use Rattle.sines.proofs.small.low_cosine.Goals as goal

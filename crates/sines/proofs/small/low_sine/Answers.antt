@@ -4,7 +4,6 @@ use native.Mathlib.Nat.{le_trans, le_of_lt, mul-le-mul, le_of_mul-le-mul_right}
 use native.Mathlib.Omega.{arith}
 use lib.Pow.{pow_pos}
 use lib.Ieee.Positive.{num, den, den_pos}
-use borrow.Author.Rules.{rules}
 use Rattle.circle.specs.Inside.Fixed.{IsHigh}
 use Rattle.sines.specs.Inside.SmallValues as SmallValues
 use Rattle.sines.proofs.small.Low.{sine_low, narrower}

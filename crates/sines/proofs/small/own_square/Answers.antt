@@ -2,7 +2,6 @@
 use Prim.Native.Nat.{ℕ, ◌*◌, ◌/◌, ◌^◌, ◌≤◌, ◌<◌}
 use native.Mathlib.Nat.{div-le_self}
 use native.Mathlib.Omega.{arith}
-use borrow.Author.Rules.{rules}
 use Rattle.sines.specs.Inside.SmallValues as SmallValues
 use Rattle.sines.proofs.small.Square.{is_square}
 use Rattle.sines.proofs.small.own_square.Goals as goal

@@ -9,7 +9,6 @@ use lib.Pow.{pow_mono}
 use lib.IntN.{pos}
 use lib.Ieee.{binary64, of_int, in_float}
 use lib.Ieee.Exact.{HasValue}
-use borrow.Author.Rules.{rules}
 use Rattle.sines.specs.Inside.SmallValues as SmallValues
 use Rattle.circle.proofs.fixed.Exactly.{whole, over_power}
 use Rattle.sines.proofs.small.placed.Goals as goal

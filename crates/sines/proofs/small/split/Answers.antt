@@ -9,14 +9,14 @@ use Rattle.sines.proofs.small.split.Goals as goal
 use Rattle.sines.proofs.small.split.Goals.{After-unpack-s, Start}
 
 above : (c : Start) → T (positive c.args.x)
-above c = low_positive c.args.x c.requires.fact_1 c.requires.fact_2
+above c = low_positive c.args.x c.requires.least c.requires.most
 
 facts : (c : After-unpack-s) → (c.unpack-s.result.e ≤ 2095) × IsSplit (num c.args.x) (den c.args.x) (c.unpack-s.result.m * 2 ^ 10 % 2 ^ 64) (2095 - c.unpack-s.result.e)
 facts c =
     let x = c.args.x in
     let m = c.unpack-s.result.m in
     let e = c.unpack-s.result.e in
-    split_of (num x) (den x) m e (den_pos x) (below_one x (over_zero x (above c.before)) c.requires.fact_2) (not_tiny x c.requires.fact_1 (above c.before)) c.unpack-s.ensures.unpacked.least c.unpack-s.ensures.unpacked.most c.unpack-s.ensures.unpacked.value
+    split_of (num x) (den x) m e (den_pos x) (below_one x (over_zero x (above c.before)) c.requires.most) (not_tiny x c.requires.least (above c.before)) c.unpack-s.ensures.unpacked.least c.unpack-s.ensures.unpacked.most c.unpack-s.ensures.unpacked.value
 
 pub unpack-s-requires : goal.unpack-s-requires
 unpack-s-requires c = above c

@@ -3,7 +3,6 @@ use mathlib.Core.Path.{◌≡◌, subst}
 use Prim.Native.Nat.{ℕ, ◌+◌, ◌-◌, ◌*◌, ◌^◌, ◌≤◌, ◌<◌}
 use native.Mathlib.Nat.{le_trans, add-le-add, le_refl, mul-le-mul_right}
 use native.Mathlib.Omega.{arith}
-use borrow.Author.Rules.{rules}
 use lib.Ieee.{Float}
 use lib.Ieee.Positive.{den}
 use Rattle.circle.specs.Within.{less}
@@ -29,7 +28,7 @@ pub upper-requires : goal.upper-requires
 upper-requires c = c.requires.0
 
 pub placed-requires-2 : goal.placed-requires-2
-placed-requires-2 c = (c.upper.ensures.lower_bound.2, c.requires.1)
+placed-requires-2 c = (c.upper.ensures.near.2, c.requires.1)
 
 pub returns : goal.returns
 unfolding SmallValues.tested_share
@@ -40,9 +39,9 @@ returns c =
     let u = c.upper in
     let h = c.placed-2 in
     let C = 2 ^ 52 * 2 ^ (a.k + 1) in record {
-      lies = wider c.guarded.result (a.n - 1024) u.result (a.n + 1024) C u.ensures.lower_bound.1
+      lies = wider c.guarded.result (a.n - 1024) u.result (a.n + 1024) C u.ensures.near.1
           (lies_of l.result h.result c.guarded.result (a.n - 1024) 0 u.result 0 C
           (subst (λ (z : ℕ). IsDifference l.result z 0 C) e.ensures (difference_more l.result e.result C l.ensures.has_value))
-          (difference_more h.result u.result C h.ensures.has_value) (order a.n u.result u.ensures.lower_bound.0) c.guarded.ensures.fact);
+          (difference_more h.result u.result C h.ensures.has_value) (order a.n u.result u.ensures.near.0) c.guarded.ensures.low_or_within);
       value = rw (c.guarded.ensures.value, h.ensures.value, u.ensures.value, l.ensures.value, e.ensures);
     }
