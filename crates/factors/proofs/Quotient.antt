@@ -33,7 +33,7 @@ once_rounded m k h =
     few : (a b : ℕ) → a ≤ 2 ^ 26 → b ≤ 2 ^ 26 → a * b ≤ 2 ^ 53
     few a b p q = let e = mul-le-mul p q in omega arith
 
--- as `bitsFrom`, from the exact quotients
+-- as `bits_from`, from the exact quotients
 unfoldable pub quotients_from : ℕ → ℕ → ℕ → ℕ → List ℕ
 quotients_from m parity i zero = []
 quotients_from m parity i (suc n) = bits_of (round binary64 false (top m (2 * i + parity)) (bottom m (2 * i + parity))) ∷ quotients_from m parity (i + 1) n
@@ -44,7 +44,7 @@ from_quotients m parity i zero h = refl
 from_quotients m parity i (suc n) h =
     rw (once_rounded m (2 * i + parity) (omega arith), from_quotients m parity (i + 1) n (omega arith))
 
--- as `factorTable`
+-- as `factor_table`
 abbrev quotients_of_order : ℕ → List ℕ
 quotients_of_order m = quotients_from m 0 0 200 ++ quotients_from m 1 0 200
 

@@ -9,7 +9,7 @@ use native.Mathlib.Decide.{ℕ_discrete, dec_le}
 use lib.Ieee.{Float, nan, inf, fin, sub, eq, lt, of_bits}
 use lib.ListN.{length, get_or, set, length-set}
 use lib.Seq.{get_or-set_same, get_or-set_other}
-use Rattle.arith.specs.Double.{◌⊖◌, ◌⊘◌, #0, #1, at}
+use Rattle.arith.specs.Double.{◌⊖◌, ◌⊘◌, #0, #1}
 use Rattle.sturm.specs.Pivots.{divisor, square, pivot, next_pivot, pivots_at}
 use Rattle.lanes.specs.Lanes.{lane_at, Holds}
 

@@ -1,4 +1,4 @@
--- A family step by step, and what its last place has in `familyFrom`. Assumes nothing.
+-- A family step by step, and what its last place has in `family_from`. Assumes nothing.
 use Prim.Native.Nat.{ℕ, zero, suc, ◌+◌, ◌-◌, ◌≤◌}
 use mathlib.Core.Path.{◌≡◌, refl, ◌∙◌}
 use mathlib.Core.Bool.{Bool, true, false, cond, ◌||◌}
@@ -100,7 +100,7 @@ module _ (d e : List Float) (entries places : ℕ) where
     unfolding last_from resumed opened_at
     last_opened n p s v h = rw h
 
-    -- ---- the same as `familyFrom` has it
+    -- ---- the same as `family_from` has it
     pub last_agrees : (n p : ℕ) (s : Ends) (out : List Bracket) (v : Float) → length out ≡ 100 → p + n ≤ 100 → (get_or out (p - 1) no_bracket).value ≡ v
         → Agrees (family_from d e entries places allowance n p s out) (last_from d e entries places allowance n p s v) (p + n - 1)
     unfolding family_from last_from

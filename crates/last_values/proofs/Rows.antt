@@ -47,8 +47,8 @@ module _ (m : ℕ) (cs : List Float) (entries : List ℕ) (places allowance : �
   OpenedAt i ds es l s = Opened m (i % 2) (at cs (i / 2)) (get_or entries (i / 2) 0) places allowance i ds es l s
 
   -- the family of a parity of matrix q
-  pub opened_at_lem : (q parity j : ℕ) (ds es : List Float) (l : Lane) (s : Ends) → parity < 2 → j ≡ 2 * q + parity → Opened m parity (at cs q) (get_or entries q 0) places allowance j ds es l s → OpenedAt j ds es l s
-  opened_at_lem q parity j ds es l s a e h = let one : j % 2 ≡ parity = omega arith in let two : j / 2 ≡ q = omega arith in rw (one, two) h
+  pub of_family : (q parity j : ℕ) (ds es : List Float) (l : Lane) (s : Ends) → parity < 2 → j ≡ 2 * q + parity → Opened m parity (at cs q) (get_or entries q 0) places allowance j ds es l s → OpenedAt j ds es l s
+  of_family q parity j ds es l s a e h = let one : j % 2 ≡ parity = omega arith in let two : j / 2 ≡ q = omega arith in rw (one, two) h
 
   pub record Openings (ds es : List Float) (ls : List Lane) (us ws : List (List Float)) (j : ℕ) : Type 0 where
     pub eight : Eight ls us ws

@@ -30,7 +30,7 @@ between lower upper = record { value = #0; lower = lower; upper = upper; steps =
 
 -- of the matrix with the diagonal d, the roots e beside it and this many entries
 module _ (d e : List Float) (entries places allowance : ℕ) where
-  -- n places from the one at p on, as `familyFrom` has them; v is the value of the place before
+  -- n places from the one at p on, as `family_from` has them; v is the value of the place before
   unfoldable pub last_from : ℕ → ℕ → Ends → Float → Last
   last_from zero p s v = given v
   last_from (suc n) p s v =

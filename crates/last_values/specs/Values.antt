@@ -8,7 +8,7 @@ use Rattle.lanes.specs.Lanes.{Holds}
 use Rattle.last_values.specs.declared.lane.Lane.{Lane}
 use Rattle.last_values.specs.Lane.{Last, last_from, comes_to}
 
--- the family of a parity, 0 even and 1 odd, from the Gershgorin bounds on, as `familyOf` has it
+-- the family of a parity, 0 even and 1 odd, from the Gershgorin bounds on, as `family_of` has it
 unfoldable pub last_of : ℕ → ℕ → Float → ℕ → ℕ → ℕ → Last
 last_of m parity cs entries places allowance =
     let d = diagonal m parity cs entries in

@@ -93,26 +93,26 @@ quotient_d_above n m h k l =
       dbl_product (2 * n - 1) (2 * n + 3) (omega arith) (omega arith),
     ) (quotient_small (a - b - 1) ((2 * n - 1) * (2 * n + 3)) (omega arith) (omega arith) (mul-pos {m = 2 * n - 1} (omega arith) (omega arith))).0
 
-quotient_d_lem : (n m : ℕ) → m ≤ n → n ≤ 800 → Bounded 24 (quotient_d n m)
-quotient_d_lem zero zero h l = quotient_d_zero
-quotient_d_lem zero (suc m) h l = absurd (omega arith)
-quotient_d_lem (suc n) m h l = quotient_d_above (suc n) m h (omega arith) l
+quotient_d_bounded : (n m : ℕ) → m ≤ n → n ≤ 800 → Bounded 24 (quotient_d n m)
+quotient_d_bounded zero zero h l = quotient_d_zero
+quotient_d_bounded zero (suc m) h l = absurd (omega arith)
+quotient_d_bounded (suc n) m h l = quotient_d_above (suc n) m h (omega arith) l
 
 -- ---- the entries
 module _ (cs : Float) (C : Bounded 120 cs) (m : ℕ) (M : m ≤ 199) where
-  entry_d_lem : (k : ℕ) → k ≤ 600 → Bounded 288 (entry_d m k cs)
-  entry_d_lem k K =
+  entry_d_bounded : (k : ℕ) → k ≤ 600 → Bounded 288 (entry_d m k cs)
+  entry_d_bounded k K =
       let n = m + k in
       let x = dbl n ⊗ dbl (n + 1) in
       let y = quotient_d n m in
       bounded_more 145 288 (x ⊕ y ⊗ cs) (omega arith)
       (add_bounded 144 x (y ⊗ cs) (omega arith)
       (bounded_more 24 144 x (omega arith) (rw (dbl_product n (n + 1) (omega arith) (omega arith)) (dbl_bounded 24 (n * (n + 1)) (omega arith) (few n (n + 1) (omega arith) (omega arith)))))
-      (mul_bounded 24 120 y cs (omega arith) (quotient_d_lem n m (omega arith) (omega arith)) C))
+      (mul_bounded 24 120 y cs (omega arith) (quotient_d_bounded n m (omega arith) (omega arith)) C))
 
-  entry_e_lem : (k : ℕ) → k ≤ 600 → Bounded 288 (entry_e m k cs)
+  entry_e_bounded : (k : ℕ) → k ≤ 600 → Bounded 288 (entry_e m k cs)
   unfolding entry_e fits
-  entry_e_lem k K =
+  entry_e_bounded k K =
       cases (Bounded 288) (ltb k 2) #0 (sqrt (entry_a m (k - 2) cs ⊗ entry_g m k cs)) (λ _. zero_bounded 288)
       (λ h.
       let l : 2 ≤ k = ltb-false k 2 h in
@@ -161,5 +161,5 @@ module _ (ds es : List Float) (D : (q : ℕ) → q < 300 → Bounded 288 (at ds 
 pub bounds_finite : (m parity : ℕ) (cs : Float) (entries : ℕ) → m ≤ 199 → parity < 2 → Bounded 120 cs → entries ≤ 300 → Finite (bounds_of (diagonal m parity cs entries) (off_diagonal m parity cs entries) entries)
 unfolding bounds_of
 bounds_finite m parity cs entries M p C l =
-    from_bounded _ _ (all_places (Bounded 288) (λ k. entry_d m k cs) parity entries (zero_bounded 288) (entry_d_lem cs C m M) p l) (all_places (Bounded 288) (λ k. entry_e m k cs) parity entries (zero_bounded 288) (entry_e_lem cs C m M) p l)
+    from_bounded _ _ (all_places (Bounded 288) (λ k. entry_d m k cs) parity entries (zero_bounded 288) (entry_d_bounded cs C m M) p l) (all_places (Bounded 288) (λ k. entry_e m k cs) parity entries (zero_bounded 288) (entry_e_bounded cs C m M) p l)
     (entries - 1) (entries - 1) (omega arith) (omega arith)

@@ -2,3 +2,4 @@
 pub mod FromTable
 pub mod Stored
 pub mod Bounded
+pub mod Examples

@@ -1,11 +1,9 @@
--- Counts of small matrices, as a table with one theorem over it, and of one family's matrix. No row is known whose count ends on a zero pivot, so that only this table shows what such a count says.
-use Rattle.std.specs.Prelude.{◌≡◌, refl, true, false, List, [], ◌∷◌, map, Float, length}
-use Rattle.std.specs.Float.Ieee.{add, sub, mul, div, lt, eq, of_bits, of_int}
+-- Counts of small matrices, as a table. No row is known whose count ends on a zero pivot, so that only this table shows what such a count says.
+-- `proofs/Examples.antt` has the theorem over it, and the count of one family's matrix.
+use Rattle.std.specs.Prelude.{true, false, List, [], ◌∷◌, Float}
 use Rattle.arith.specs.Double.{bits, #0, #1, #2, #3}
-use Rattle.arith.specs.Root.{sqrt}
 use Rattle.sturm.specs.declared.pivots.Count.{Count}
-use Rattle.sturm.specs.Entries.{diagonal, off_diagonal, first_entries, blank_entries, entry_e}
-use Rattle.sturm.specs.Pivots.{count, divisor, next_pivot, pivots_at, negative_pivots}
+use Rattle.sturm.specs.Pivots.{count}
 
 -- −0, the least double above zero and the greatest below it
 abbrev #-0 : Float
@@ -43,16 +41,3 @@ counts =
     -- the square of the rounded root of 2 is above 2
     (#1 ∷ #2 ∷ [], #0 ∷ root2 ∷ [], #0, count 1 false) ∷
     []
-
-pub counts_right :
-    map (λ (row : List Float × List Float × Float × Count). negative_pivots row.0 row.1 (length row.0) row.2) counts
-    ≡ map (λ (row : List Float × List Float × Float × Count). row.3) counts
-unfolding negative_pivots pivots_at next_pivot divisor sub mul div lt eq of_bits
-counts_right = refl
-
--- The even matrix of the oblate mode m = n = 0 with c 2, whose cs is −4 and which has 12 entries. At this shift, −1.5944932131854581, the products under the roots in the place of the roots' squares would give 1.
-pub family_count :
-    negative_pivots (diagonal 0 0 (bits 0xc010_0000_0000_0000) 12) (off_diagonal 0 0 (bits 0xc010_0000_0000_0000) 12) 12 (bits 0xbff9_830b_50c5_353e)
-    ≡ count 0 false
-unfolding negative_pivots pivots_at next_pivot divisor first_entries blank_entries entry_e sqrt add sub mul div lt eq of_bits of_int
-family_count = refl

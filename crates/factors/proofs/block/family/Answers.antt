@@ -4,7 +4,6 @@ use mathlib.Core.Path.{◌≡◌}
 use mathlib.Core.List.{List}
 use native.Mathlib.Omega.{arith}
 use Rattle.factors.specs.Factors.{bits_from}
-use borrow.Author.Rules.{rules}
 use Rattle.factors.proofs.block.family.Goals as goal
 
 -- the factors of a family that is known by its numbers

@@ -3,7 +3,6 @@ use mathlib.Core.Path.{refl}
 use native.Mathlib.Omega.{arith}
 use lib.Ieee.{round, to_bits}
 use Rattle.factors.proofs.Quotient.{quotients_from, block_is}
-use borrow.Author.Rules.{rules}
 use Rattle.factors.proofs.block.odd_1.Goals as goal
 
 pub returns : goal.returns

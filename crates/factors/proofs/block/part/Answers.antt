@@ -1,11 +1,9 @@
 -- `factors::block::part` meets its contract. The invariant: the first i places are copied. Assumes nothing.
-use Prim.Native.Nat.{◌-◌, ◌≤◌}
-use mathlib.Core.Path.{◌≡◌, refl}
+use mathlib.Core.Path.{refl}
 use native.Mathlib.Omega.{arith}
 use native.Mathlib.Numerals.{add-one}
-use lib.ListN.{length, take, drop, length-set}
+use lib.ListN.{length-set}
 use Rattle.factors.proofs.Places.{one_more, all_copied}
-use borrow.Author.Rules.{rules}
 use Rattle.factors.proofs.block.part.Goals as goal
 
 pub loop-i-init : goal.loop-i-init

@@ -1,6 +1,5 @@
 -- `factors::lookup::factor_a` meets its contract. Assumes nothing.
 use mathlib.Core.Path.{refl}
-use borrow.Author.Rules.{rules}
 use Rattle.factors.proofs.lookup.factor_a.Goals as goal
 
 pub returns : goal.returns

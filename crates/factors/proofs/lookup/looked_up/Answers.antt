@@ -1,7 +1,6 @@
 -- `factors::lookup::looked_up` meets its contract: the place is the entry's own, and what it holds are the bits of its factor. Assumes nothing.
 use native.Mathlib.Omega.{arith}
 use Rattle.factors.proofs.Places.{length_bits, read_there, no_nan}
-use borrow.Author.Rules.{rules}
 use Rattle.factors.proofs.lookup.looked_up.Goals as goal
 
 pub bounds-block-i : goal.bounds-block-i

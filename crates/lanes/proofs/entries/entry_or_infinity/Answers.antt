@@ -1,7 +1,6 @@
 -- `lanes::entries::entry_or_infinity` meets its contract. Assumes nothing.
 use borrow.Author.Tests.{lt-ltb, le-ltb}
 use lib.Ieee.{div, of_bits}
-use borrow.Author.Rules.{rules}
 use Rattle.lanes.proofs.entries.entry_or_infinity.Goals as goal
 
 pub returns-then-i-entries : goal.returns-then-i-entries

@@ -1,14 +1,8 @@
 -- `lanes::entries::load` meets its contract. The invariant: the first i places of the lane are filled, and every other index holds what it held. Assumes nothing.
-use Prim.Native.Nat.{◌+◌, ◌*◌, ◌-◌, ◌≤◌}
 use mathlib.Core.Path.{refl, ◌∙◌}
-use mathlib.Core.Bool.{false, cond}
 use native.Mathlib.Omega.{arith}
 use borrow.Author.Tests.{lt-ltb, le-ltb}
-use lib.Dec.{ltb}
-use lib.Ieee.{nan, inf}
-use Rattle.arith.specs.Double.{at}
-use Rattle.lanes.proofs.Laws.{Stored, none_stored, one_stored}
-use borrow.Author.Rules.{rules}
+use Rattle.lanes.proofs.Laws.{none_stored, one_stored}
 use Rattle.lanes.proofs.entries.load.Goals as goal
 
 pub loop-i-init : goal.loop-i-init

@@ -1,14 +1,10 @@
 -- `lanes::entries::load` meets its contract. The invariant: the first i places of the lane are filled, and every other index holds what it held. Assumes nothing.
 use Prim.Native.Nat.{◌+◌, ◌*◌, ◌-◌, ◌≤◌}
-use mathlib.Core.Path.{refl, ◌∙◌}
 use mathlib.Core.Bool.{false, cond}
-use native.Mathlib.Omega.{arith}
-use borrow.Author.Tests.{lt-ltb, le-ltb}
 use lib.Dec.{ltb}
 use lib.Ieee.{nan, inf}
 use Rattle.arith.specs.Double.{at}
-use Rattle.lanes.proofs.Laws.{Stored, none_stored, one_stored}
-use borrow.Author.Rules.{rules}
+use Rattle.lanes.proofs.Laws.{Stored}
 use Rattle.lanes.proofs.entries.load.Given as goal
 
 abbrev pub invariant-loop-i : goal.invariant-loop-i

@@ -1,16 +1,7 @@
 -- `lanes::pivots::advance` meets its contract. The invariant: the lanes before the j-th have their pivots and counts, and the others what they had. Assumes nothing.
-use Prim.Native.Nat.{ℕ, ◌+◌, ◌-◌, ◌≤◌}
 use mathlib.Core.Path.{◌≡◌, ◌∙◌}
-use mathlib.Core.Bool.{cond}
-use mathlib.Core.List.{List}
 use native.Mathlib.Omega.{arith}
-use lib.Ieee.{Float, nan, lt}
-use lib.ListN.{get_or}
-use Rattle.arith.specs.Double.{#0, at}
-use Rattle.sturm.specs.Pivots.{square, pivot}
-use Rattle.lanes.specs.Lanes.{lane_at}
-use Rattle.lanes.proofs.Laws.{Stored, none_stored, one_stored, next_kept}
-use borrow.Author.Rules.{rules}
+use Rattle.lanes.proofs.Laws.{none_stored, one_stored, next_kept}
 use Rattle.lanes.proofs.pivots.advance.Goals as goal
 use Rattle.lanes.proofs.pivots.advance.Invariants.{pivot_of}
 

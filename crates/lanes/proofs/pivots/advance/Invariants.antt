@@ -1,16 +1,13 @@
 -- `lanes::pivots::advance` meets its contract. The invariant: the lanes before the j-th have their pivots and counts, and the others what they had. Assumes nothing.
 use Prim.Native.Nat.{ℕ, ◌+◌, ◌-◌, ◌≤◌}
-use mathlib.Core.Path.{◌≡◌, ◌∙◌}
 use mathlib.Core.Bool.{cond}
 use mathlib.Core.List.{List}
-use native.Mathlib.Omega.{arith}
 use lib.Ieee.{Float, nan, lt}
 use lib.ListN.{get_or}
 use Rattle.arith.specs.Double.{#0, at}
 use Rattle.sturm.specs.Pivots.{square, pivot}
 use Rattle.lanes.specs.Lanes.{lane_at}
-use Rattle.lanes.proofs.Laws.{Stored, none_stored, one_stored, next_kept}
-use borrow.Author.Rules.{rules}
+use Rattle.lanes.proofs.Laws.{Stored}
 use Rattle.lanes.proofs.pivots.advance.Given as goal
 
 abbrev pub pivot_of : List Float → List Float → ℕ → List Float → List Float → ℕ → Float

@@ -1,5 +1,4 @@
 -- `lanes::pivots::any_zero` meets its contract. The invariant: where the flag is false, no pivot before the j-th is zero. Assumes nothing.
-use Prim.Native.Nat.{ℕ, ◌-◌, ◌≤◌, ◌<◌}
 use mathlib.Core.Path.{◌≡◌}
 use mathlib.Core.Bool.{false}
 use native.Mathlib.Omega.{arith}
@@ -7,7 +6,6 @@ use lib.Ieee.{eq}
 use Rattle.arith.specs.Double.{#0, at}
 use Rattle.arith.proofs.Flags.{neither}
 use Rattle.lanes.proofs.Laws.{one_more}
-use borrow.Author.Rules.{rules}
 use Rattle.lanes.proofs.pivots.any_zero.Goals as goal
 
 pub loop-j-init : goal.loop-j-init

@@ -2,12 +2,8 @@
 use Prim.Native.Nat.{ℕ, ◌-◌, ◌≤◌, ◌<◌}
 use mathlib.Core.Path.{◌≡◌}
 use mathlib.Core.Bool.{false}
-use native.Mathlib.Omega.{arith}
 use lib.Ieee.{eq}
 use Rattle.arith.specs.Double.{#0, at}
-use Rattle.arith.proofs.Flags.{neither}
-use Rattle.lanes.proofs.Laws.{one_more}
-use borrow.Author.Rules.{rules}
 use Rattle.lanes.proofs.pivots.any_zero.Given as goal
 
 abbrev pub invariant-loop-j : goal.invariant-loop-j

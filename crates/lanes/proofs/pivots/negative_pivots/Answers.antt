@@ -1,13 +1,12 @@
 -- `lanes::pivots::negative_pivots` meets its contract. The invariant: the pivot and the count of each lane are its own after i entries. Assumes nothing.
-use Prim.Native.Nat.{ℕ, min, ◌-◌, ◌≤◌, ◌<◌}
+use Prim.Native.Nat.{ℕ, min}
 use mathlib.Core.Path.{◌≡◌, refl}
 use native.Mathlib.Omega.{arith}
 use lib.Ieee.{nan}
-use lib.ListN.{length, get_or, get_or-replicate}
-use Rattle.arith.specs.Double.{#1, at}
+use lib.ListN.{get_or-replicate}
+use Rattle.arith.specs.Double.{#1}
 use Rattle.sturm.specs.Pivots.{negative_pivots}
-use Rattle.lanes.proofs.Laws.{Lane, lane_starts, lane_on}
-use borrow.Author.Rules.{rules}
+use Rattle.lanes.proofs.Laws.{lane_starts, lane_on}
 use Rattle.lanes.proofs.pivots.negative_pivots.Goals as goal
 
 pub loop-i-init : goal.loop-i-init

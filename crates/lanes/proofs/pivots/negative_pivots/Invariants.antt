@@ -1,13 +1,9 @@
 -- `lanes::pivots::negative_pivots` meets its contract. The invariant: the pivot and the count of each lane are its own after i entries. Assumes nothing.
-use Prim.Native.Nat.{ℕ, min, ◌-◌, ◌≤◌, ◌<◌}
-use mathlib.Core.Path.{◌≡◌, refl}
-use native.Mathlib.Omega.{arith}
-use lib.Ieee.{nan}
-use lib.ListN.{length, get_or, get_or-replicate}
-use Rattle.arith.specs.Double.{#1, at}
-use Rattle.sturm.specs.Pivots.{negative_pivots}
-use Rattle.lanes.proofs.Laws.{Lane, lane_starts, lane_on}
-use borrow.Author.Rules.{rules}
+use Prim.Native.Nat.{ℕ, ◌-◌, ◌≤◌, ◌<◌}
+use mathlib.Core.Path.{◌≡◌}
+use lib.ListN.{length, get_or}
+use Rattle.arith.specs.Double.{at}
+use Rattle.lanes.proofs.Laws.{Lane}
 use Rattle.lanes.proofs.pivots.negative_pivots.Given as goal
 
 abbrev pub invariant-loop-i : goal.invariant-loop-i

@@ -1,12 +1,9 @@
 -- `lanes::pivots::substitute` meets its contract. The invariant: the pivots before the j-th are divisors, and the others are what they were. Assumes nothing.
 use Prim.Native.Nat.{◌-◌, ◌≤◌}
-use mathlib.Core.Path.{◌∙◌}
-use native.Mathlib.Omega.{arith}
 use lib.Ieee.{nan}
 use Rattle.arith.specs.Double.{at}
 use Rattle.sturm.specs.Pivots as Pivots
-use Rattle.lanes.proofs.Laws.{Stored, none_stored, one_stored, next_kept}
-use borrow.Author.Rules.{rules}
+use Rattle.lanes.proofs.Laws.{Stored}
 use Rattle.lanes.proofs.pivots.substitute.Given as goal
 
 abbrev pub invariant-loop-j : goal.invariant-loop-j

@@ -1,6 +1,5 @@
 -- `lanes::pivots::substitute_zeros` meets its contract. Assumes nothing.
 use Rattle.lanes.proofs.Laws.{no_zero}
-use borrow.Author.Rules.{rules}
 use Rattle.lanes.proofs.pivots.substitute_zeros.Goals as goal
 
 pub returns-else-any_zero : goal.returns-else-any_zero

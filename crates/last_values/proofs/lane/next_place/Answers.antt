@@ -2,7 +2,6 @@
 use mathlib.Core.Path.{refl}
 use borrow.Author.Tests.{eq-eqb, ne_eqb}
 use native.Mathlib.Omega.{arith}
-use borrow.Author.Rules.{rules}
 use Rattle.last_values.proofs.lane.next_place.Goals as goal
 
 pub returns-then-p-places : goal.returns-then-p-places

@@ -1,5 +1,4 @@
 -- `last_values::lane::started` meets its contract. Assumes nothing.
-use borrow.Author.Rules.{rules}
 use Rattle.last_values.proofs.lane.started.Goals as goal
 
 pub returns : goal.returns

@@ -1,7 +1,6 @@
 -- `last_values::lane::step` meets its contract. Assumes nothing.
 use native.Mathlib.Omega.{arith}
 use Rattle.last_values.proofs.Laws as laws
-use borrow.Author.Rules.{rules}
 use Rattle.last_values.proofs.lane.step.Goals as goal
 
 pub returns-then-lane : goal.returns-then-lane

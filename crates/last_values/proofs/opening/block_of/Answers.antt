@@ -1,6 +1,5 @@
 -- `last_values::opening::block_of` meets its contract. Assumes nothing.
 use native.Mathlib.Omega.{arith}
-use borrow.Author.Rules.{rules}
 use Rattle.last_values.proofs.opening.block_of.Goals as goal
 
 pub returns-then-m-lt4 : goal.returns-then-m-lt4

@@ -1,7 +1,6 @@
 -- `last_values::opening::open_lane` meets its contract. Assumes nothing.
 use native.Mathlib.Omega.{arith}
 use Rattle.last_values.proofs.Rows.{opened_is}
-use borrow.Author.Rules.{rules}
 use Rattle.last_values.proofs.opening.open_lane.Goals as goal
 
 pub fill_with-requires : goal.fill_with-requires

@@ -1,10 +1,8 @@
 -- `last_values::opening::open_lanes` meets its contract. The invariant: the first 2q lanes are open. Assumes nothing.
-use Prim.Native.Nat.{◌+◌, ◌-◌, ◌*◌, ◌≤◌, ◌<◌}
-use mathlib.Core.Path.{◌≡◌, refl}
-use native.Mathlib.Omega.{arith}
+use Prim.Native.Nat.{◌-◌, ◌*◌, ◌≤◌}
+use mathlib.Core.Path.{◌≡◌}
 use lib.ListN.{length}
-use Rattle.last_values.proofs.Rows.{Openings, opened_at_lem, openings_on}
-use borrow.Author.Rules.{rules}
+use Rattle.last_values.proofs.Rows.{Openings}
 use Rattle.last_values.proofs.opening.open_lanes.Given as goal
 
 abbrev pub invariant-loop-q : goal.invariant-loop-q

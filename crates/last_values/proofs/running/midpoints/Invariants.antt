@@ -1,11 +1,9 @@
 -- `last_values::running::midpoints` meets its contract. The invariant: the first j midpoints are in place. Assumes nothing.
 use Prim.Native.Nat.{◌-◌, ◌≤◌}
-use native.Mathlib.Omega.{arith}
 use lib.Ieee.{nan}
-use Rattle.lanes.proofs.Laws.{Stored, none_stored, one_stored}
+use Rattle.lanes.proofs.Laws.{Stored}
 use Rattle.last_values.specs.Lane.{midpoint_of}
 use Rattle.last_values.specs.Lanes.{lane_of}
-use borrow.Author.Rules.{rules}
 use Rattle.last_values.proofs.running.midpoints.Given as goal
 
 abbrev pub invariant-loop-j : goal.invariant-loop-j

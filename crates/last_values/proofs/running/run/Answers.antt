@@ -1,12 +1,11 @@
 -- `last_values::running::run` meets its contract. The invariant: each lane comes to what it came to, and the first j are through. Assumes nothing.
-use Prim.Native.Nat.{ℕ, ◌-◌, ◌≤◌, ◌<◌}
+use Prim.Native.Nat.{ℕ, ◌<◌}
 use mathlib.Core.Path.{◌≡◌}
 use mathlib.Core.Bool.{true}
 use native.Mathlib.Omega.{arith}
 use Rattle.lanes.proofs.Laws.{one_more}
-use Rattle.last_values.specs.Lanes.{lane_of, Went}
+use Rattle.last_values.specs.Lanes.{lane_of}
 use Rattle.last_values.proofs.Each.{went_none, went_on}
-use borrow.Author.Rules.{rules}
 use Rattle.last_values.proofs.running.run.Goals as goal
 
 pub loop-j-init : goal.loop-j-init
@@ -23,9 +22,9 @@ loop-j-preserved c =
     let l = c.loop-j in
     let r = c.run_lane-next in (
       omega arith,
-      went_on _ _ _ _ _ _ _ _ _ _ _ _ _ _ l.invariant.1 r.ensures.0,
-      one_more (λ (i : ℕ). (lane_of r.result i).ended ≡ true) l.j (λ (i : ℕ) (less : i < l.j). r.ensures.0.kept i (omega arith) (l.invariant.2 i less)) r.ensures.1,
+      went_on _ _ _ _ _ _ _ _ _ _ _ _ _ _ l.invariant.1 r.ensures.went,
+      one_more (λ (i : ℕ). (lane_of r.result i).ended ≡ true) l.j (λ (i : ℕ) (less : i < l.j). r.ensures.went.kept i (omega arith) (l.invariant.2 i less)) r.ensures.j_value,
     )
 
 pub returns : goal.returns
-returns c = let l = c.loop-j in (l.invariant.1, λ j less. l.invariant.2 j (omega arith))
+returns c = let l = c.loop-j in record { went = l.invariant.1; by_index = λ j less. l.invariant.2 j (omega arith) }

@@ -2,11 +2,7 @@
 use Prim.Native.Nat.{ℕ, ◌-◌, ◌≤◌, ◌<◌}
 use mathlib.Core.Path.{◌≡◌}
 use mathlib.Core.Bool.{true}
-use native.Mathlib.Omega.{arith}
-use Rattle.lanes.proofs.Laws.{one_more}
 use Rattle.last_values.specs.Lanes.{lane_of, Went}
-use Rattle.last_values.proofs.Each.{went_none, went_on}
-use borrow.Author.Rules.{rules}
 use Rattle.last_values.proofs.running.run.Given as goal
 
 abbrev pub invariant-loop-j : goal.invariant-loop-j

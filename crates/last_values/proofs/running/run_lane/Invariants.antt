@@ -1,9 +1,6 @@
 -- `last_values::running::run_lane` meets its contract. The invariant: each lane comes to what it came to. Assumes nothing.
-use borrow.Author.Tests.{not-true, not-false}
 use Rattle.last_values.specs.Lane.{weight}
 use Rattle.last_values.specs.Lanes.{lane_of, Went}
-use Rattle.last_values.proofs.Each.{went_none, went_on}
-use borrow.Author.Rules.{rules}
 use Rattle.last_values.proofs.running.run_lane.Given as goal
 
 abbrev pub invariant-loop-out : goal.invariant-loop-out

@@ -1,8 +1,6 @@
 -- `last_values::running::step_each` meets its contract. The invariant: the first j lanes have made their step. Assumes nothing.
-use Prim.Native.Nat.{◌-◌, ◌≤◌}
 use native.Mathlib.Omega.{arith}
-use Rattle.last_values.proofs.Each.{Each, each_none, each_on}
-use borrow.Author.Rules.{rules}
+use Rattle.last_values.proofs.Each.{each_none, each_on}
 use Rattle.last_values.proofs.running.step_each.Goals as goal
 
 pub loop-j-init : goal.loop-j-init
@@ -22,4 +20,4 @@ loop-j-preserved c =
 pub returns : goal.returns
 returns c =
     let e = c.loop-j.invariant.1 in
-    (λ j less. e.done j (omega arith), e.eight)
+    record { by_index = λ j less. e.done j (omega arith); eight = e.eight }

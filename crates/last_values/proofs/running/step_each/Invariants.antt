@@ -1,8 +1,6 @@
 -- `last_values::running::step_each` meets its contract. The invariant: the first j lanes have made their step. Assumes nothing.
 use Prim.Native.Nat.{◌-◌, ◌≤◌}
-use native.Mathlib.Omega.{arith}
-use Rattle.last_values.proofs.Each.{Each, each_none, each_on}
-use borrow.Author.Rules.{rules}
+use Rattle.last_values.proofs.Each.{Each}
 use Rattle.last_values.proofs.running.step_each.Given as goal
 
 abbrev pub invariant-loop-j : goal.invariant-loop-j

@@ -1,12 +1,11 @@
 -- `last_values::values::any_stopped` meets its contract. The invariant: the first j lanes. Assumes nothing.
-use Prim.Native.Nat.{ℕ, ◌-◌, ◌≤◌, ◌<◌}
+use Prim.Native.Nat.{ℕ}
 use mathlib.Core.Path.{◌≡◌, refl}
 use mathlib.Core.Bool.{false}
 use native.Mathlib.Omega.{arith}
 use Rattle.arith.proofs.Flags.{neither}
 use Rattle.lanes.proofs.Laws.{one_more}
 use Rattle.last_values.specs.Lanes.{lane_of}
-use borrow.Author.Rules.{rules}
 use Rattle.last_values.proofs.values.any_stopped.Goals as goal
 
 pub loop-j-init : goal.loop-j-init
@@ -15,7 +14,7 @@ loop-j-init c = (omega arith, λ h i l. absurd (omega arith), λ all. refl)
 pub loop-j-preserved : goal.loop-j-preserved
 loop-j-preserved c =
     let l = c.loop-j in
-    let lanes = c.args.t1 in (
+    let lanes = c.args.lanes in (
       omega arith,
       λ h. let n = neither (lane_of lanes l.j).stopped l.stopped h in one_more (λ (i : ℕ). (lane_of lanes i).stopped ≡ false) l.j (l.invariant.1 n.1) n.0,
       λ all. rw (all l.j (omega arith), l.invariant.2 all),

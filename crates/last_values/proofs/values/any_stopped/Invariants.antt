@@ -1,12 +1,8 @@
 -- `last_values::values::any_stopped` meets its contract. The invariant: the first j lanes. Assumes nothing.
 use Prim.Native.Nat.{ℕ, ◌-◌, ◌≤◌, ◌<◌}
-use mathlib.Core.Path.{◌≡◌, refl}
+use mathlib.Core.Path.{◌≡◌}
 use mathlib.Core.Bool.{false}
-use native.Mathlib.Omega.{arith}
-use Rattle.arith.proofs.Flags.{neither}
-use Rattle.lanes.proofs.Laws.{one_more}
 use Rattle.last_values.specs.Lanes.{lane_of}
-use borrow.Author.Rules.{rules}
 use Rattle.last_values.proofs.values.any_stopped.Given as goal
 
 abbrev pub invariant-loop-j : goal.invariant-loop-j

@@ -1,9 +1,6 @@
 -- `last_values::values::most` meets its contract. The invariant: none of the first q is more. Assumes nothing.
 use Prim.Native.Nat.{ℕ, ◌-◌, ◌≤◌, ◌<◌}
-use native.Mathlib.Omega.{arith}
 use lib.ListN.{get_or}
-use Rattle.lanes.proofs.Laws.{one_more}
-use borrow.Author.Rules.{rules}
 use Rattle.last_values.proofs.values.most.Given as goal
 
 abbrev pub invariant-loop-q : goal.invariant-loop-q

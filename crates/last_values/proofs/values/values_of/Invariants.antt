@@ -1,11 +1,8 @@
 -- `last_values::values::values_of` meets its contract. The invariant: the first q values are in place. Assumes nothing.
 use Prim.Native.Nat.{◌+◌, ◌-◌, ◌*◌, ◌≤◌}
-use mathlib.Core.Path.{refl}
-use native.Mathlib.Omega.{arith}
 use lib.Ieee.{nan}
-use Rattle.lanes.proofs.Laws.{Stored, none_stored, one_stored}
+use Rattle.lanes.proofs.Laws.{Stored}
 use Rattle.last_values.specs.Lanes.{lane_of}
-use borrow.Author.Rules.{rules}
 use Rattle.last_values.proofs.values.values_of.Given as goal
 
 abbrev pub invariant-loop-q : goal.invariant-loop-q

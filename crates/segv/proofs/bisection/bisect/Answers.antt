@@ -1,26 +1,13 @@
 -- `segv::bisection::bisect` meets its contract. The invariant: what is left to do gives the whole answer, steps and allowance add up, and the known counts are those at the midpoints to come. Assumes nothing.
 use Rattle.segv.proofs.Laws as laws
 use Rattle.segv.proofs.Ahead.{Known, none_known, three_known, count_known, known_after}
-use Prim.Native.Nat.{◌-◌, ◌+◌, ◌<◌}
+use Prim.Native.Nat.{◌-◌, ◌<◌}
 use mathlib.Core.Path.{◌≡◌, refl, sym, ◌∙◌}
-use mathlib.Core.Logic.{⊎_elim}
 use native.Mathlib.Omega.{arith}
 use Rattle.sturm.specs.Pivots.{negative_pivots}
-use Rattle.segv.specs.Bisection.{bisection}
 use Rattle.segv.specs.Inside.Arrays.{ends}
-use borrow.Author.Rules.{rules}
 use Rattle.segv.proofs.bisection.bisect.Goals as goal
-use Rattle.segv.proofs.bisection.bisect.Goals.{Joined-known-eq0}
-
--- after the test of `known` the count of this step is known
-recounted : (c : Joined-known-eq0)
-    → let l = c.loop-left in let a = c.args in
-    (0 < c.if-known-eq0.known) × Known (negative_pivots a.d.now a.e.now a.entries) c.if-known-eq0.known l.r.lower l.r.upper c.if-known-eq0.counts
-recounted c =
-    let l = c.loop-left in
-    let h = c.with_midpoint-r in
-    ⊎_elim (λ w. let e = w.3 in (omega arith, rw (w.2, w.3) (three_known _ l.r h.result _ h.ensures w.1.ensures)))
-    (λ w. let e = w.2 in let f = w.0.left in (omega arith, rw (w.1, w.2) l.invariant.2)) c.if-known-eq0.branch
+use Rattle.segv.proofs.bisection.bisect.Goals.{then-known-eq0, else-known-eq0}
 
 pub loop-left-init : goal.loop-left-init
 loop-left-init c = (omega arith, refl, none_known _ _ _ _)
@@ -33,20 +20,24 @@ returns-then-converged c =
     sym m ∙ l.invariant.1
 
 pub overflow_sub-known : goal.overflow_sub-known
-overflow_sub-known c = let p = (recounted c.before).0 in omega (arith, p)
+overflow_sub-known c = elim c.if-known-eq0.branch [ then-known-eq0 w ↦ omega arith | else-known-eq0 w ↦ omega arith ]
 
 pub loop-left-preserved : goal.loop-left-preserved
 loop-left-preserved c =
-    let j = c.before in
-    let l = j.loop-left in
-    let h = j.with_midpoint-r in
+    let l = c.loop-left in
+    let h = c.with_midpoint-r in
     let t = c.tightened-r in
     let o = c.tighten_others in
     let a = c.at_x-count in
-    let k = recounted j in
+    -- after the test of `known` the count of this step is known
+    let k : (0 < c.if-known-eq0.known) × Known (negative_pivots c.args.d.now c.args.e.now c.args.entries) c.if-known-eq0.known l.r.lower l.r.upper c.if-known-eq0.counts =
+    elim c.if-known-eq0.branch [
+      | then-known-eq0 w ↦ (omega arith, rw (w.counts-is, w.known-is) (three_known _ l.r h.result _ h.ensures w.counts_ahead-counts.ensures))
+      | else-known-eq0 w ↦ (omega arith, rw (w.counts-is, w.known-is) l.invariant.2)
+    ] in
     let s = laws.steps_on _ _ l.r h.result t.result h.ensures t.ensures in
     let n = count_known _ _ l.r h.result _ h.ensures k.1 _ a.ensures k.0 in
-    let m = laws.on _ _ _ _ _ l.left (l.left - 1) l.r h.result (ends l.uppers l.lowers) _ _ t.result _ (omega arith) h.ensures j.converged.ensures j.if-converged.false n t.ensures (laws.tightened-r _ _ _ _ _ _ _ o.ensures.uppers_after o.ensures.lowers_after) in
+    let m = laws.on _ _ _ _ _ l.left (l.left - 1) l.r h.result (ends l.uppers l.lowers) _ _ t.result _ (omega arith) h.ensures c.converged.ensures c.if-converged.false n t.ensures (laws.tightened _ _ _ _ _ _ _ o.ensures.uppers_after o.ensures.lowers_after) in
     (omega (arith, s), sym m ∙ l.invariant.1, known_after _ _ l.r h.result _ h.ensures k.1 _ _ t.result _ a.ensures t.ensures c.counts_after-counts.ensures)
 
 pub returns : goal.returns

@@ -1,14 +1,10 @@
 -- `segv::bisection::bisect` meets its contract. The invariant: what is left to do gives the whole answer, steps and allowance add up, and the known counts are those at the midpoints to come. Assumes nothing.
-use Rattle.segv.proofs.Laws as laws
-use Rattle.segv.proofs.Ahead.{Known, none_known, three_known, count_known, known_after}
-use Prim.Native.Nat.{◌-◌, ◌+◌, ◌<◌}
-use mathlib.Core.Path.{◌≡◌, refl, sym, ◌∙◌}
-use mathlib.Core.Logic.{⊎_elim}
-use native.Mathlib.Omega.{arith}
+use Rattle.segv.proofs.Ahead.{Known}
+use Prim.Native.Nat.{◌+◌}
+use mathlib.Core.Path.{◌≡◌}
 use Rattle.sturm.specs.Pivots.{negative_pivots}
 use Rattle.segv.specs.Bisection.{bisection}
 use Rattle.segv.specs.Inside.Arrays.{ends}
-use borrow.Author.Rules.{rules}
 use Rattle.segv.proofs.bisection.bisect.Given as goal
 
 abbrev pub invariant-loop-left : goal.invariant-loop-left

@@ -1,7 +1,6 @@
 -- `segv::bisection::tighten_others` meets its contract. Assumes nothing.
 use borrow.Author.Tests.{le-leb, lt-leb}
 use Rattle.segv.specs.Bisection.{tighten_others, tighten_counted}
-use borrow.Author.Rules.{rules}
 use Rattle.segv.proofs.bisection.tighten_others.Goals as goal
 
 pub returns-then-negative-place : goal.returns-then-negative-place

@@ -2,8 +2,7 @@
 use Prim.Native.Nat.{◌-◌, ◌+◌}
 use mathlib.Core.Path.{◌≡◌, refl, sym, ◌∙◌}
 use native.Mathlib.Omega.{arith}
-use Rattle.segv.specs.Families.{family_from, opened_at}
-use Rattle.segv.specs.Inside.Arrays.{ends}
+use Rattle.segv.specs.Families.{opened_at}
 use Rattle.segv.proofs.Laws as laws
 use borrow.Author.Rules.{rules}
 use Rattle.segv.proofs.families.bisect_family.Goals as goal
@@ -20,7 +19,7 @@ returns-in_default c =
     let l = c.loop-p in
     let a = c.args in
     let b = c.bisect-found in
-    let m = laws.one_out_of_steps _ _ _ _ _ (a.places - l.p) (a.places - (l.p + 1)) _ _ _ _ l.out _ (omega arith) c.opened-start.ensures b.ensures c.enum_told-1.given.1 in
+    let m = laws.one_out_of_steps _ _ _ _ _ (a.places - l.p) (a.places - (l.p + 1)) _ _ _ _ l.out _ (omega arith) c.opened-start.ensures b.ensures c.in_default.is in
     let s = c.before in
     sym m ∙ l.invariant ∙ laws.from_first _ _ _ _ _ _ _ _ _ s.hundred-uppers.ensures s.hundred-lowers.ensures s.blank_brackets-out.ensures
 
@@ -29,7 +28,7 @@ loop-p-preserved c =
     let l = c.loop-p in
     let a = c.args in
     let b = c.bisect-found in
-    let m = laws.one_found _ _ _ _ _ (a.places - l.p) (a.places - (l.p + 1)) _ _ _ _ l.out _ _ (omega arith) c.opened-start.ensures b.ensures c.found-1.given.1 in
+    let m = laws.one_found _ _ _ _ _ (a.places - l.p) (a.places - (l.p + 1)) _ _ _ _ l.out _ _ (omega arith) c.opened-start.ensures b.ensures c.in-Converged.is in
     sym m ∙ l.invariant
 
 pub returns : goal.returns

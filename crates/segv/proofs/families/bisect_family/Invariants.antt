@@ -1,11 +1,8 @@
 -- `segv::families::bisect_family` meets its contract. The invariant: the places that are left give the whole family. Assumes nothing.
-use Prim.Native.Nat.{◌-◌, ◌+◌}
-use mathlib.Core.Path.{◌≡◌, refl, sym, ◌∙◌}
-use native.Mathlib.Omega.{arith}
-use Rattle.segv.specs.Families.{family_from, opened_at}
+use Prim.Native.Nat.{◌-◌}
+use mathlib.Core.Path.{◌≡◌}
+use Rattle.segv.specs.Families.{family_from}
 use Rattle.segv.specs.Inside.Arrays.{ends}
-use Rattle.segv.proofs.Laws as laws
-use borrow.Author.Rules.{rules}
 use Rattle.segv.proofs.families.bisect_family.Given as goal
 
 abbrev pub invariant-loop-p : goal.invariant-loop-p

@@ -1,9 +1,8 @@
 -- `segv::families::family_of` meets its contract. Assumes nothing.
 use Rattle.segv.proofs.Laws as laws
-use borrow.Author.Rules.{rules}
 use Rattle.segv.proofs.families.family_of.Goals as goal
 
 pub returns : goal.returns
 returns c =
     let fill = c.fill in
-    laws.family-is _ _ _ _ _ _ _ _ _ _ c.bisect_family.ensures c.gershgorin-bounds.ensures fill.ensures.d_after fill.ensures.e_after
+    laws.family_is _ _ _ _ _ _ _ _ _ _ c.bisect_family.ensures c.gershgorin-bounds.ensures fill.ensures.d_after fill.ensures.e_after

@@ -3,7 +3,6 @@ use Prim.Native.Nat.{suc, ◌-◌, ◌+◌}
 use mathlib.Core.Path.{◌≡◌, refl}
 use native.Mathlib.Omega.{arith}
 use Rattle.segv.specs.Families.{first_below}
-use borrow.Author.Rules.{rules}
 use Rattle.segv.proofs.families.first_below.Goals as goal
 
 pub loop-i-init : goal.loop-i-init

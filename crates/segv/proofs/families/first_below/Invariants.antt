@@ -1,9 +1,7 @@
 -- `segv::families::first_below` meets its contract. The invariant: the uppers that are left give the answer. Assumes nothing.
-use Prim.Native.Nat.{suc, ◌-◌, ◌+◌}
-use mathlib.Core.Path.{◌≡◌, refl}
-use native.Mathlib.Omega.{arith}
+use Prim.Native.Nat.{◌-◌}
+use mathlib.Core.Path.{◌≡◌}
 use Rattle.segv.specs.Families.{first_below}
-use borrow.Author.Rules.{rules}
 use Rattle.segv.proofs.families.first_below.Given as goal
 
 abbrev pub invariant-loop-i : goal.invariant-loop-i

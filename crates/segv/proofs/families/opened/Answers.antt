@@ -1,7 +1,6 @@
 -- `segv::families::opened` meets its contract. Assumes nothing.
 use Rattle.segv.specs.Families.{opened_at, raised}
 use borrow.Author.Tests.{ne_eqb}
-use borrow.Author.Rules.{rules}
 use Rattle.segv.proofs.families.opened.Goals as goal
 
 pub returns-then-p-eq0 : goal.returns-then-p-eq0

@@ -1,7 +1,6 @@
 -- `segv::row::mode_at` meets its contract. Assumes nothing.
 use borrow.Author.Tests.{eq-eqb, ne_eqb}
 use Rattle.segv.specs.Row.{mode_at}
-use borrow.Author.Rules.{rules}
 use Rattle.segv.proofs.row.mode_at.Goals as goal
 
 pub returns-then-j-eq0 : goal.returns-then-j-eq0

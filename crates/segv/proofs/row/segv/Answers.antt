@@ -1,6 +1,5 @@
 -- `segv::row::segv` meets its contract. Assumes nothing.
 use Rattle.segv.proofs.Laws as laws
-use borrow.Author.Rules.{rules}
 use Rattle.segv.proofs.row.segv.Goals as goal
 
 pub returns-then-even : goal.returns-then-even

@@ -1,5 +1,4 @@
 -- `sturm::entries::entry_a` meets its contract. Assumes nothing.
-use borrow.Author.Rules.{rules}
 use Rattle.sturm.proofs.entries.entry_a.Goals as goal
 
 pub returns : goal.returns

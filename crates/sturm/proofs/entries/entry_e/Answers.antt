@@ -4,7 +4,6 @@ use mathlib.Core.Path.{◌≡◌}
 use native.Mathlib.Omega.{arith}
 use borrow.Author.Tests.{lt-ltb, le-ltb}
 use Rattle.sturm.specs.Entries.{entry_e}
-use borrow.Author.Rules.{rules}
 use Rattle.sturm.proofs.entries.entry_e.Goals as goal
 
 pub returns-then-i-eq0 : goal.returns-then-i-eq0

@@ -1,10 +1,8 @@
 -- `sturm::entries::fill_with` meets its contract. The invariant: the first i entries are filled. Assumes nothing.
-use Prim.Native.Nat.{◌≤◌, ◌-◌}
 use mathlib.Core.Path.{◌≡◌}
 use native.Mathlib.Omega.{arith}
 use native.Mathlib.Numerals.{add-one}
-use Rattle.sturm.specs.Entries.{first_entries, entry_d, entry_e}
-use borrow.Author.Rules.{rules}
+use Rattle.sturm.specs.Entries.{first_entries}
 use Rattle.sturm.proofs.entries.fill_with.Goals as goal
 
 pub loop-i-init : goal.loop-i-init

@@ -1,10 +1,9 @@
 -- `sturm::gershgorin_bounds::gershgorin` meets its contract. The invariant: the bounds are widened by the first i entries. Assumes nothing.
-use Prim.Native.Nat.{◌≤◌, ◌-◌}
+use Prim.Native.Nat.{◌-◌}
 use mathlib.Core.Path.{◌≡◌, refl}
 use native.Mathlib.Omega.{arith}
 use native.Mathlib.Numerals.{add-one}
 use Rattle.sturm.specs.Bounds.{bounds_from, bounds_of}
-use borrow.Author.Rules.{rules}
 use Rattle.sturm.proofs.gershgorin_bounds.gershgorin.Goals as goal
 
 pub loop-i-init : goal.loop-i-init

@@ -1,10 +1,7 @@
 -- `sturm::gershgorin_bounds::gershgorin` meets its contract. The invariant: the bounds are widened by the first i entries. Assumes nothing.
 use Prim.Native.Nat.{◌≤◌, ◌-◌}
-use mathlib.Core.Path.{◌≡◌, refl}
-use native.Mathlib.Omega.{arith}
-use native.Mathlib.Numerals.{add-one}
-use Rattle.sturm.specs.Bounds.{bounds_from, bounds_of}
-use borrow.Author.Rules.{rules}
+use mathlib.Core.Path.{◌≡◌}
+use Rattle.sturm.specs.Bounds.{bounds_from}
 use Rattle.sturm.proofs.gershgorin_bounds.gershgorin.Given as goal
 
 abbrev pub invariant-loop-i : goal.invariant-loop-i

@@ -1,5 +1,4 @@
 -- `sturm::pivots::counted` meets its contract. Assumes nothing.
-use borrow.Author.Rules.{rules}
 use Rattle.sturm.proofs.pivots.counted.Goals as goal
 
 pub returns-then-s : goal.returns-then-s

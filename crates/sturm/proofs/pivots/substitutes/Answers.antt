@@ -1,10 +1,8 @@
 -- `sturm::pivots::substitutes` meets its contract. The invariant: pivot and flag are the definition's after i entries. Assumes nothing.
 use mathlib.Core.Path.{◌≡◌, refl}
-use Prim.Native.Nat.{◌≤◌, ◌-◌}
 use native.Mathlib.Omega.{arith}
 use native.Mathlib.Numerals.{add-one}
 use Rattle.sturm.specs.Pivots.{next_pivot, pivots_at, negative_pivots}
-use borrow.Author.Rules.{rules}
 use Rattle.sturm.proofs.pivots.substitutes.Goals as goal
 
 pub loop-i-init : goal.loop-i-init

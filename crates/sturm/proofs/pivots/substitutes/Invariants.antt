@@ -1,10 +1,7 @@
 -- `sturm::pivots::substitutes` meets its contract. The invariant: pivot and flag are the definition's after i entries. Assumes nothing.
-use mathlib.Core.Path.{◌≡◌, refl}
+use mathlib.Core.Path.{◌≡◌}
 use Prim.Native.Nat.{◌≤◌, ◌-◌}
-use native.Mathlib.Omega.{arith}
-use native.Mathlib.Numerals.{add-one}
-use Rattle.sturm.specs.Pivots.{next_pivot, pivots_at, negative_pivots}
-use borrow.Author.Rules.{rules}
+use Rattle.sturm.specs.Pivots.{pivots_at}
 use Rattle.sturm.proofs.pivots.substitutes.Given as goal
 
 abbrev pub invariant-loop-i : goal.invariant-loop-i

@@ -1,5 +1,4 @@
 -- `sturm::pivots::substitutes_at` meets its contract. Assumes nothing.
-use borrow.Author.Rules.{rules}
 use Rattle.sturm.proofs.pivots.substitutes_at.Goals as goal
 
 pub returns : goal.returns

@@ -1,5 +1,4 @@
 -- `last_values::lane::Lane::converged` meets its contract. Assumes nothing.
-use borrow.Author.Rules.{rules}
 use Rattle.last_values.proofs.lane.Lane.converged.Goals as goal
 
 pub returns : goal.returns

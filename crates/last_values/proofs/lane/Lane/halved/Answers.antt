@@ -1,6 +1,5 @@
 -- `last_values::lane::Lane::halved` meets its contract. Assumes nothing.
 use borrow.Author.Tests.{lt-ltb, le-ltb}
-use borrow.Author.Rules.{rules}
 use Rattle.last_values.proofs.lane.Lane.halved.Goals as goal
 
 pub returns-then-negative-self : goal.returns-then-negative-self

@@ -1,6 +1,5 @@
 -- `segv::bisection::Bracket::converged` meets its contract. Assumes nothing.
 use Rattle.segv.specs.Bisection.{converged}
-use borrow.Author.Rules.{rules}
 use Rattle.segv.proofs.bisection.Bracket.converged.Goals as goal
 
 pub returns : goal.returns

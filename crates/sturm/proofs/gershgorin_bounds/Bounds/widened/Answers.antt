@@ -1,6 +1,5 @@
 -- `sturm::gershgorin_bounds::Bounds::widened` meets its contract. Assumes nothing.
 use Rattle.sturm.specs.Bounds.{widen}
-use borrow.Author.Rules.{rules}
 use Rattle.sturm.proofs.gershgorin_bounds.Bounds.widened.Goals as goal
 
 pub returns : goal.returns

@@ -1,5 +1,4 @@
 -- `sturm::pivots::Counts::none` meets its contract. Assumes nothing.
-use borrow.Author.Rules.{rules}
 use Rattle.sturm.proofs.pivots.Counts.none.Goals as goal
 
 pub returns : goal.returns

@@ -1,5 +1,4 @@
 -- `sturm::pivots::Numbers::counted` meets its contract. Assumes nothing.
-use borrow.Author.Rules.{rules}
 use Rattle.sturm.proofs.pivots.Numbers.counted.Goals as goal
 
 pub returns : goal.returns

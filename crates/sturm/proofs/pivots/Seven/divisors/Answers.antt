@@ -1,5 +1,4 @@
 -- `sturm::pivots::Seven::divisors` meets its contract. Assumes nothing.
-use borrow.Author.Rules.{rules}
 use Rattle.sturm.proofs.pivots.Seven.divisors.Goals as goal
 
 pub returns : goal.returns
