@@ -82,7 +82,7 @@ fn run_lane(
 ) -> [Lane; 8]
     requires { (entries ≤ 192) × (places ≤ 100) × (j < 8) × Eight lanes uppers.old lowers.old × Inside places lanes }
     ensures went { Went ds.now es.now entries places allowance lanes result uppers.old uppers.new lowers.old lowers.new }
-    ensures j_value { (lane_of result j).ended ≡ true }
+    ensures through { (lane_of result j).ended ≡ true }
 {
     let mut out = lanes;
     while !out[j].ended {

@@ -29,8 +29,8 @@ fn most(entries: [u32; 4]) -> usize
 }
 
 fn larger(a: usize, b: usize) -> usize
-    ensures lower_bound { (a ≤ result) × (b ≤ result) }
-    ensures by_index { (t : ℕ) → a ≤ t → b ≤ t → result ≤ t }
+    ensures at_least { (a ≤ result) × (b ≤ result) }
+    ensures no_more { (t : ℕ) → a ≤ t → b ≤ t → result ≤ t }
 {
     if a < b {
         return b;
@@ -39,8 +39,8 @@ fn larger(a: usize, b: usize) -> usize
 }
 
 fn any_stopped(lanes: [Lane; 8]) -> bool
-    ensures j_value { result ≡ false → (j : ℕ) → j < 8 → (lane_of lanes j).stopped ≡ false }
-    ensures by_index { ((j : ℕ) → j < 8 → (lane_of lanes j).stopped ≡ false) → result ≡ false }
+    ensures none_where_false { result ≡ false → (j : ℕ) → j < 8 → (lane_of lanes j).stopped ≡ false }
+    ensures false_where_none { ((j : ℕ) → j < 8 → (lane_of lanes j).stopped ≡ false) → result ≡ false }
 {
     let mut stopped = false;
     let mut j: usize = 0;

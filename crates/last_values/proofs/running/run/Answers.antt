@@ -23,7 +23,7 @@ loop-j-preserved c =
     let r = c.run_lane-next in (
       omega arith,
       went_on _ _ _ _ _ _ _ _ _ _ _ _ _ _ l.invariant.1 r.ensures.went,
-      one_more (λ (i : ℕ). (lane_of r.result i).ended ≡ true) l.j (λ (i : ℕ) (less : i < l.j). r.ensures.went.kept i (omega arith) (l.invariant.2 i less)) r.ensures.j_value,
+      one_more (λ (i : ℕ). (lane_of r.result i).ended ≡ true) l.j (λ (i : ℕ) (less : i < l.j). r.ensures.went.kept i (omega arith) (l.invariant.2 i less)) r.ensures.through,
     )
 
 pub returns : goal.returns

@@ -18,4 +18,4 @@ pub loop-out-preserved : goal.loop-out-preserved
 loop-out-preserved c = went_on _ _ _ _ _ _ _ _ _ _ _ _ _ _ c.loop-out.invariant c.pass-next.ensures.went
 
 pub returns : goal.returns
-returns c = record { went = c.loop-out.invariant; j_value = c.loop-out-test.false }
+returns c = record { went = c.loop-out.invariant; through = c.loop-out-test.false }

@@ -21,4 +21,4 @@ loop-j-preserved c =
     )
 
 pub returns : goal.returns
-returns c = let l = c.loop-j in record { j_value = λ h j less. l.invariant.1 h j (omega arith); by_index = l.invariant.2 }
+returns c = let l = c.loop-j in record { none_where_false = λ h j less. l.invariant.1 h j (omega arith); false_where_none = l.invariant.2 }

@@ -34,4 +34,4 @@ returns c =
     let r = c.run-through in
     let t = rows.all_through a.m a.cs a.entries _ a.allowance _ _ _ _ _ _ _ _ _ o.by_index_2 most.1 r.ensures.went r.ensures.by_index in
     let s = c.any_stopped.ensures in
-    let v = c.values_of.ensures in record { fact = λ h q l. let g = rows.rows_given a.m a.n a.cs a.entries a.allowance _ refl pre.m_bound.2 r.result t (s.j_value h) q l in (g.0, v q l ∙ g.1); by_index_2 = λ h. s.by_index (rows.lanes_through a.m a.n a.cs a.entries a.allowance _ refl pre.m_bound.2 r.result t h) }
+    let v = c.values_of.ensures in record { fact = λ h q l. let g = rows.rows_given a.m a.n a.cs a.entries a.allowance _ refl pre.m_bound.2 r.result t (s.none_where_false h) q l in (g.0, v q l ∙ g.1); by_index_2 = λ h. s.false_where_none (rows.lanes_through a.m a.n a.cs a.entries a.allowance _ refl pre.m_bound.2 r.result t h) }

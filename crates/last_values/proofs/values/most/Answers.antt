@@ -14,8 +14,8 @@ loop-q-preserved c =
     let e = c.larger-out.ensures in
     let entries = c.args.entries in (
       omega arith,
-      e.by_index 192 l.invariant.1 (c.requires l.q (omega arith)),
-      one_more (λ (i : ℕ). get_or entries i 0 ≤ c.larger-out.result) l.q (λ (i : ℕ) (less : i < l.q). let h = l.invariant.2 i less in omega (arith, e.lower_bound)) e.lower_bound.1,
+      e.no_more 192 l.invariant.1 (c.requires l.q (omega arith)),
+      one_more (λ (i : ℕ). get_or entries i 0 ≤ c.larger-out.result) l.q (λ (i : ℕ) (less : i < l.q). let h = l.invariant.2 i less in omega (arith, e.at_least)) e.at_least.1,
     )
 
 pub returns : goal.returns
