@@ -101,7 +101,7 @@ pub arctangents_as_listed : map (λ (c : Case). is_arctangent c.0 c.1) arctangen
 unfolding of_bits falling at sum
 arctangents_as_listed = refl
 
--- ---- the decimal logarithm: at a power of ten the powers of `Near` have one base, so it says that r is within 2 ^ -20 of k (`at-powers-of-ten` proves it)
+-- ---- the decimal logarithm: at a power of ten the powers of `Near` have one base, so it says that r is within 2 ^ -20 of k (`at_powers_of_ten` proves it)
 abbrev pub is_log_of_power : ℕ → Float → Bool
 is_log_of_power k r =
     finite r

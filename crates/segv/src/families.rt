@@ -56,7 +56,7 @@ pub struct Family {
 pub type Places = [f64; 100];
 
 // A hundred places that hold x. Made by a call, an array is one value in the caller's proof.
-pub fn hundred(x: f64) -> Places
+pub fn hundred(x: f64) -> [f64; 100]
     ensures { result ≡ replicate 100 x }
 {
     [x; 100]

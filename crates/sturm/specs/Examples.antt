@@ -12,8 +12,8 @@ abbrev #-0 : Float
 abbrev least : Float
 least = bits 0x0000_0000_0000_0001
 
-abbrev _least : Float
-_least = bits 0x8000_0000_0000_0001
+abbrev minus_least : Float
+minus_least = bits 0x8000_0000_0000_0001
 
 -- the double nearest to the root of 2
 abbrev root2 : Float
@@ -35,7 +35,7 @@ counts =
     (#-0 ∷ #1 ∷ [], #0 ∷ #0 ∷ [], #0, count 0 true) ∷
     -- the least pivots that are not zero, of either sign: no
     (least ∷ #1 ∷ [], #0 ∷ #1 ∷ [], #0, count 1 false) ∷
-    (_least ∷ #1 ∷ [], #0 ∷ #1 ∷ [], #0, count 1 false) ∷
+    (minus_least ∷ #1 ∷ [], #0 ∷ #1 ∷ [], #0, count 1 false) ∷
     -- a yes stays a yes
     (#2 ∷ #3 ∷ #3 ∷ [], #0 ∷ #0 ∷ #1 ∷ [], #2, count 0 true) ∷
     -- the square of the rounded root of 2 is above 2
