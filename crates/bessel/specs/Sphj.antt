@@ -1,5 +1,5 @@
 -- Spherical Bessel functions of the first kind (`sphj`), with the names of the source, for orders from 0 to an n of 2 or more: `rmn1` asks for 50 or more. Definitions only.
-use Rattle.std.specs.Prelude.{ℕ, zero, suc, ◌-◌, Bool, cond, List, ltb, leb, set, replicate, Float}
+use Rattle.std.specs.Prelude.{ℕ, zero, suc, Bool, cond, List, ltb, leb, set, replicate, Float}
 use Rattle.std.specs.Float.Ieee.{lt}
 use Rattle.arith.specs.Double.{◌⊕◌, ◌⊖◌, ◌⊗◌, ◌⊘◌, dbl, at, #0, #1, #2, #3, #1e-100}
 use Rattle.arith.specs.Choice.{abs}

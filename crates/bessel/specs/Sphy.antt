@@ -54,8 +54,8 @@ sy x n = cond (near_zero x) (filled (neg #1e300) (suc n) blank) (recurred x n).s
 unfoldable pub dy : Float → ℕ → List Float
 dy x n =
     let r = recurred x n in
-    let lowestOnly = set blank 0 (lowest x).da in
-    cond (near_zero x) (filled #1e300 (suc n) blank) (cond r.whole (derived x r.sy (n - 1) lowestOnly) lowestOnly)
+    let lowest_only = set blank 0 (lowest x).da in
+    cond (near_zero x) (filled #1e300 (suc n) blank) (cond r.whole (derived x r.sy (n - 1) lowest_only) lowest_only)
 
 unfoldable pub highest : Float → ℕ → ℕ
 highest x n = cond (near_zero x) n (recurred x n).nm

@@ -49,7 +49,7 @@ struct Reached {
 // reaches 1e300.
 fn recur(x: f64, n: u32, sa: f64, sb: f64, sy: &mut [f64; 252]) -> Reached
     requires { (2 ≤ n) × (n < 252) }
-    ensures { record { sy = sy.exit.now; nm = result.nm; whole = result.whole } ≡ Sphy.steps_up x n (n - 1) 2 sa sb sy.entry.now }
+    ensures { record { sy = sy.new; nm = result.nm; whole = result.whole } ≡ Sphy.steps_up x n (n - 1) 2 sa sb sy.old }
 {
     let mut f0 = sa;
     let mut f1 = sb;

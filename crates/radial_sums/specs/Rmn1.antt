@@ -39,16 +39,16 @@ sa0_of m n ip c = sa0_above m n ip ⊘ sa0_below m n ip c (r2_of c m)
 unfoldable pub placed : ℕ → Float → Pair
 placed ip v = record { value = cond (eqb ip 0) v #0; derivative = cond (eqb ip 0) #0 v }
 
--- ---- at x = 0; dfSum is the source's suc
+-- ---- at x = 0; df_sum is the source's suc
 
 unfoldable pub on_disc : List Float → List Float → ℕ → ℕ → Float → Pair
 on_disc df ck m n c =
     let ip = (n - m) % 2 in
     let nm = first_terms (n - m) c in
     let reg = regulator m nm in
-    let dfSum = expansion_sum Product df m ip ((n - m) / 2) nm reg in
+    let df_sum = expansion_sum Product df m ip ((n - m) / 2) nm reg in
     let sum = powers_sum ck nm in
-    placed ip (sum ⊘ (sa0_of m n ip c ⊗ dfSum) ⊗ at df 0 ⊗ reg)
+    placed ip (sum ⊘ (sa0_of m n ip c ⊗ df_sum) ⊗ at df 0 ⊗ reg)
 
 -- ---- at an x other than zero
 
@@ -56,12 +56,12 @@ on_disc df ck m n c =
 unfoldable pub to_half : Float → ℕ → Float
 to_half w m = cond (eqb (m % 2) 0) (power w (m / 2)) (half_power w (m / 2))
 
--- From the sum over the expansion coefficients, dfSum, and the sums with Bessel functions of either kind and with their derivatives. kd is −1, and kd m as a whole number is +0 for m = 0.
+-- From the sum over the expansion coefficients, df_sum, and the sums with Bessel functions of either kind and with their derivatives. kd is −1, and kd m as a whole number is +0 for m = 0.
 -- Where x³ underflows, b0 is 0/0 for m = 0; where x x underflows, w is infinite.
 unfoldable pub joined : ℕ → Float → Float → Float → Float → Float → Pair
-joined m c x dfSum sum sud =
+joined m c x df_sum sum sud =
     let w = #1 ⊖ neg #1 ⊘ (x ⊗ x) in
-    let a0 = to_half w m ⊘ dfSum in
+    let a0 = to_half w m ⊘ df_sum in
     let r1f = sum ⊗ a0 in
     let b0 = (#0 ⊖ dbl m) ⊘ power x 3 ⊘ w ⊗ r1f in
     record { value = r1f; derivative = b0 ⊕ a0 ⊗ c ⊗ sud }

@@ -1,5 +1,4 @@
 -- `angular::aswfa::a0_of` meets its contract. Assumes nothing.
-use borrow.Author.Rules.{rules}
 use mathlib.Core.Path.{◌∙◌}
 use Rattle.angular.proofs.Laws.{a0_even, a0_odd}
 use Rattle.angular.proofs.aswfa.a0_of.Goals as goal

@@ -1,5 +1,4 @@
 -- `angular::aswfa::aswfa` meets its contract. Assumes nothing.
-use borrow.Author.Rules.{rules}
 use Rattle.angular.proofs.Laws.{aswfa_is}
 use Rattle.angular.proofs.aswfa.aswfa.Goals as goal
 

@@ -1,15 +1,10 @@
 -- `angular::aswfa::aswfa_each` meets its contract. The invariant: the pairs of the first j arguments are in place. Assumes nothing.
-use Prim.Native.Nat.{◌+◌, ◌-◌, ◌*◌, ◌≤◌, ◌<◌}
-use mathlib.Core.Path.{◌≡◌, refl, ap, ◌∙◌}
+use Prim.Native.Nat.{◌-◌, ◌*◌, ◌≤◌}
+use mathlib.Core.Path.{◌≡◌}
 use mathlib.Core.List.{◌++◌}
-use native.Mathlib.Omega.{arith}
-use lib.ListN.{length, take, drop, length-set}
-use lib.Seq.{take_all, lt-length-set}
+use lib.ListN.{length, take, drop}
 use Rattle.angular.specs.Aswfa.{aswfa}
 use Rattle.angular.specs.Inside.Turns.{in_turn}
-use Rattle.angular.proofs.Laws.{aswfa_is, before_signs_same}
-use Rattle.angular.proofs.Turns.{pair_put}
-use borrow.Author.Rules.{rules}
 use Rattle.angular.proofs.aswfa.aswfa_each.Given as goal
 
 abbrev pub invariant-loop-j : goal.invariant-loop-j

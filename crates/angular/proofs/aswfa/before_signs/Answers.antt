@@ -1,5 +1,4 @@
 -- `angular::aswfa::before_signs` meets its contract. Assumes nothing.
-use borrow.Author.Rules.{rules}
 use native.Mathlib.Omega.{arith}
 use Rattle.angular.specs.Aswfa as Aswfa
 use Rattle.angular.proofs.Laws.{at_one_same}

@@ -1,5 +1,4 @@
 -- `angular::aswfa::coefficients` meets its contract. Assumes nothing.
-use borrow.Author.Rules.{rules}
 use Prim.Native.Nat.{◌+◌, ◌*◌, ◌/◌}
 use native.Mathlib.Omega.{arith}
 use Rattle.expansion.proofs.First.{stands_first, stands_agrees}

@@ -1,5 +1,4 @@
 -- `angular::aswfa::derivative_at_one` meets its contract. Assumes nothing.
-use borrow.Author.Rules.{rules}
 use borrow.Author.Tests.{eq-eqb, ne_eqb}
 use Rattle.angular.specs.Aswfa.{derivative_at_one}
 use Rattle.angular.proofs.aswfa.derivative_at_one.Goals as goal

@@ -1,5 +1,4 @@
 -- `angular::aswfa::derivative_inside` meets its contract. Assumes nothing.
-use borrow.Author.Rules.{rules}
 use Rattle.angular.specs.Aswfa.{derivative_inside}
 use Rattle.angular.proofs.aswfa.derivative_inside.Goals as goal
 

@@ -1,9 +1,7 @@
 -- `angular::aswfa::in_stages` meets its contract. The invariant: the coefficients before the next are in place. Assumes nothing.
-use borrow.Author.Rules.{rules}
-use Prim.Native.Nat.{◌+◌, ◌-◌, ◌*◌, ◌/◌, ◌%◌, ◌≤◌}
+use Prim.Native.Nat.{◌+◌, ◌-◌, ◌*◌, ◌/◌, ◌%◌}
 use mathlib.Core.Path.{◌≡◌, sym, ◌∙◌}
 use native.Mathlib.Omega.{arith}
-use Rattle.expansion.specs.Inside.Carried.{StandsFor}
 use Rattle.expansion.specs.Sckb.{sckb}
 use Rattle.expansion.proofs.First.{stands_first, stands_agrees}
 use Rattle.angular.proofs.Laws.{before_signs_same}

@@ -1,12 +1,6 @@
 -- `angular::aswfa::in_stages` meets its contract. The invariant: the coefficients before the next are in place. Assumes nothing.
-use borrow.Author.Rules.{rules}
-use Prim.Native.Nat.{◌+◌, ◌-◌, ◌*◌, ◌/◌, ◌%◌, ◌≤◌}
-use mathlib.Core.Path.{◌≡◌, sym, ◌∙◌}
-use native.Mathlib.Omega.{arith}
+use Prim.Native.Nat.{◌-◌, ◌≤◌}
 use Rattle.expansion.specs.Inside.Carried.{StandsFor}
-use Rattle.expansion.specs.Sckb.{sckb}
-use Rattle.expansion.proofs.First.{stands_first, stands_agrees}
-use Rattle.angular.proofs.Laws.{before_signs_same}
 use Rattle.angular.proofs.aswfa.in_stages.Given as goal
 
 abbrev pub invariant-loop-count : goal.invariant-loop-count

@@ -1,5 +1,4 @@
 -- `angular::aswfa::with_signs` meets its contract. Assumes nothing.
-use borrow.Author.Rules.{rules}
 use Rattle.angular.proofs.aswfa.with_signs.Goals as goal
 
 pub returns : goal.returns

@@ -1,5 +1,4 @@
 -- `angular::limit::nm2_of` meets its contract. Assumes nothing.
-use borrow.Author.Rules.{rules}
 use native.Mathlib.Omega.{arith}
 use Rattle.angular.specs.Aswfa.{nm2_of}
 use Rattle.angular.proofs.limit.nm2_of.Goals as goal

@@ -1,5 +1,4 @@
 -- `angular::sums::negligible` meets its contract. Assumes nothing.
-use borrow.Author.Rules.{rules}
 use borrow.Author.Tests.{le-leb, lt-leb}
 use Rattle.angular.specs.Aswfa as Aswfa
 use Rattle.angular.proofs.sums.negligible.Goals as goal

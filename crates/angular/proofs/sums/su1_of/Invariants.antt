@@ -1,18 +1,11 @@
 -- `angular::sums::su1_of` meets its contract. The invariant: what is left to add gives what the whole gives, over every list that begins as ck, and p is the k-th power of x1. Assumes nothing.
-use borrow.Author.Rules.{rules}
 use Prim.Native.Nat.{ℕ, suc, ◌+◌, ◌-◌, ◌≤◌}
-use mathlib.Core.Path.{◌≡◌, refl, sym, ◌∙◌}
-use native.Mathlib.Omega.{arith}
-use native.Mathlib.Numerals.{add-one}
-use native.Mathlib.Nat.{add-zero}
+use mathlib.Core.Path.{◌≡◌}
 use mathlib.Core.List.{List}
 use lib.Ieee.{Float}
-use Rattle.arith.specs.Double.{◌⊕◌, ◌⊗◌, at}
 use Rattle.arith.specs.Powers.{power}
-use Rattle.arith.proofs.Flags.{not_taken}
 use Rattle.angular.specs.Aswfa.{summed, value_term, su1_of}
 use Rattle.angular.specs.Inside.Stages.{Agree}
-use Rattle.angular.proofs.Laws.{summed_stop, summed_on}
 use Rattle.angular.proofs.sums.su1_of.Given as goal
 
 abbrev pub invariant-loop-k : goal.invariant-loop-k

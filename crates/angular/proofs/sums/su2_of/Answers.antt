@@ -1,6 +1,5 @@
 -- `angular::sums::su2_of` meets its contract. The invariant: what is left to add gives what the whole gives, over every list that begins as ck, and p is the power of x1 below the k-th. Assumes nothing.
-use borrow.Author.Rules.{rules}
-use Prim.Native.Nat.{ℕ, suc, ◌+◌, ◌-◌, ◌≤◌}
+use Prim.Native.Nat.{ℕ, suc, ◌+◌, ◌-◌}
 use mathlib.Core.Path.{◌≡◌, refl, sym, ◌∙◌}
 use native.Mathlib.Omega.{arith}
 use native.Mathlib.Numerals.{add-one}

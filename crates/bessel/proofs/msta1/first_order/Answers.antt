@@ -3,7 +3,6 @@ use native.Mathlib.Omega.{arith}
 use Rattle.arith.specs.Double.{◌⊗◌}
 use Rattle.arith.proofs.Laws.{whole_most}
 use Rattle.bessel.specs.Msta1.{#1·1, first_order}
-use borrow.Author.Rules.{rules}
 use Rattle.bessel.proofs.msta1.first_order.Goals as goal
 
 pub overflow_add-result : goal.overflow_add-result

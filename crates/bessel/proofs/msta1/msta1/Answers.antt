@@ -1,6 +1,5 @@
 -- `bessel::msta1::msta1` meets its contract. Assumes nothing.
 use Rattle.bessel.specs.Msta1.{msta1}
-use borrow.Author.Rules.{rules}
 use Rattle.bessel.proofs.msta1.msta1.Goals as goal
 
 pub returns : goal.returns

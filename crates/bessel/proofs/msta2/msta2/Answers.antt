@@ -1,6 +1,5 @@
 -- `bessel::msta2::msta2` meets its contract. Assumes nothing.
 use Rattle.bessel.specs.Msta2.{msta2}
-use borrow.Author.Rules.{rules}
 use Rattle.bessel.proofs.msta2.msta2.Goals as goal
 
 pub returns : goal.returns

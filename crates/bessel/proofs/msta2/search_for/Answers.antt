@@ -1,6 +1,5 @@
 -- `bessel::msta2::search_for` meets its contract. Assumes nothing.
 use Rattle.bessel.specs.Msta2.{search_for}
-use borrow.Author.Rules.{rules}
 use Rattle.bessel.proofs.msta2.search_for.Goals as goal
 
 pub returns-then-ejn-hmp : goal.returns-then-ejn-hmp

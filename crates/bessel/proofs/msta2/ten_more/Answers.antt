@@ -2,7 +2,6 @@
 use native.Mathlib.Omega.{arith}
 use borrow.Author.Tests.{eq-eqb, ne_eqb}
 use Rattle.bessel.specs.Msta2.{ten_more}
-use borrow.Author.Rules.{rules}
 use Rattle.bessel.proofs.msta2.ten_more.Goals as goal
 
 pub returns-then-n-eq0 : goal.returns-then-n-eq0

@@ -1,6 +1,5 @@
 -- `bessel::secant::envj` meets its contract. Assumes nothing.
 use Rattle.bessel.specs.Secant.{envj}
-use borrow.Author.Rules.{rules}
 use Rattle.bessel.proofs.secant.envj.Goals as goal
 
 pub returns : goal.returns

@@ -1,11 +1,7 @@
 -- `bessel::secant::secant` meets its contract. The invariant: what is left to try gives what the whole gives. Assumes nothing.
-use Prim.Native.Nat.{◌-◌, ◌≤◌}
-use mathlib.Core.Path.{◌≡◌, sym, ◌∙◌}
-use native.Mathlib.Omega.{arith}
-use borrow.Author.Tests.{eq-eqb, ne_eqb, not-true, not-false}
-use Rattle.bessel.specs.Secant.{meeting, excess, secant}
-use Rattle.bessel.proofs.Laws.{one_more, none_left, not_tried, again, onward, tried_most}
-use borrow.Author.Rules.{rules}
+use Prim.Native.Nat.{◌≤◌}
+use mathlib.Core.Path.{◌≡◌}
+use Rattle.bessel.specs.Secant.{excess, secant}
 use Rattle.bessel.proofs.secant.secant.Given as goal
 
 abbrev pub invariant-loop-left : goal.invariant-loop-left

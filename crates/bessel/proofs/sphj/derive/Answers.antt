@@ -1,10 +1,8 @@
 -- `bessel::sphj::derive` meets its contract. The invariant: the derivatives up to order k are there. Assumes nothing.
-use Prim.Native.Nat.{◌-◌, ◌≤◌}
 use mathlib.Core.Path.{◌≡◌, refl}
 use native.Mathlib.Omega.{arith}
 use native.Mathlib.Numerals.{add-one}
 use Rattle.bessel.specs.Sphj.{derived}
-use borrow.Author.Rules.{rules}
 use Rattle.bessel.proofs.sphj.derive.Goals as goal
 
 pub loop-k-init : goal.loop-k-init

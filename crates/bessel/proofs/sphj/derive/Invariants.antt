@@ -1,10 +1,7 @@
 -- `bessel::sphj::derive` meets its contract. The invariant: the derivatives up to order k are there. Assumes nothing.
 use Prim.Native.Nat.{◌-◌, ◌≤◌}
-use mathlib.Core.Path.{◌≡◌, refl}
-use native.Mathlib.Omega.{arith}
-use native.Mathlib.Numerals.{add-one}
+use mathlib.Core.Path.{◌≡◌}
 use Rattle.bessel.specs.Sphj.{derived}
-use borrow.Author.Rules.{rules}
 use Rattle.bessel.proofs.sphj.derive.Given as goal
 
 abbrev pub invariant-loop-k : goal.invariant-loop-k

@@ -1,6 +1,5 @@
 -- `bessel::sphj::factor` meets its contract. Assumes nothing.
 use Rattle.bessel.specs.Sphj.{factor}
-use borrow.Author.Rules.{rules}
 use Rattle.bessel.proofs.sphj.factor.Goals as goal
 
 pub returns-then-abs : goal.returns-then-abs

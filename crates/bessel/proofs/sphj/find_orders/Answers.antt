@@ -2,7 +2,6 @@
 use mathlib.Core.Path.{sym, ◌∙◌}
 use native.Mathlib.Omega.{arith}
 use Rattle.bessel.specs.Sphj.{orders}
-use borrow.Author.Rules.{rules}
 use Rattle.bessel.proofs.sphj.find_orders.Goals as goal
 
 pub returns-then-tiny : goal.returns-then-tiny

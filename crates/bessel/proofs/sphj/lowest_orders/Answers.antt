@@ -1,6 +1,5 @@
 -- `bessel::sphj::lowest_orders` meets its contract. Assumes nothing.
 use Rattle.bessel.specs.Sphj.{lowest}
-use borrow.Author.Rules.{rules}
 use Rattle.bessel.proofs.sphj.lowest_orders.Goals as goal
 
 pub returns : goal.returns

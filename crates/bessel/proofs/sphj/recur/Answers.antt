@@ -1,12 +1,11 @@
 -- `bessel::sphj::recur` meets its contract. The invariant: the steps that are left give what all give. Assumes nothing.
-use Prim.Native.Nat.{suc, ◌-◌, ◌≤◌}
-use mathlib.Core.Path.{◌≡◌, ◌∙◌}
+use Prim.Native.Nat.{◌-◌}
+use mathlib.Core.Path.{◌∙◌}
 use native.Mathlib.Omega.{arith}
 use native.Mathlib.Numerals.{add-one}
 use borrow.Author.Tests.{le-leb, lt-leb}
-use Rattle.bessel.specs.Sphj.{steps_down, recurred}
+use Rattle.bessel.specs.Sphj.{steps_down}
 use Rattle.bessel.proofs.Laws.{one_more, none_left, kept, passed}
-use borrow.Author.Rules.{rules}
 use Rattle.bessel.proofs.sphj.recur.Goals as goal
 
 pub loop-k-init : goal.loop-k-init

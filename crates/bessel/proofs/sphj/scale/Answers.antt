@@ -1,10 +1,8 @@
 -- `bessel::sphj::scale` meets its contract. The invariant: the first k places are scaled. Assumes nothing.
-use Prim.Native.Nat.{◌-◌, ◌≤◌}
 use mathlib.Core.Path.{◌≡◌, refl}
 use native.Mathlib.Omega.{arith}
 use native.Mathlib.Numerals.{add-one}
 use Rattle.bessel.specs.Sphj.{scaled}
-use borrow.Author.Rules.{rules}
 use Rattle.bessel.proofs.sphj.scale.Goals as goal
 
 pub loop-k-init : goal.loop-k-init

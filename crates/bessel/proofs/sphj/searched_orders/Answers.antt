@@ -2,7 +2,6 @@
 use native.Mathlib.Omega.{arith}
 use borrow.Author.Tests.{lt-ltb, le-ltb}
 use Rattle.bessel.specs.Sphj.{searched_orders}
-use borrow.Author.Rules.{rules}
 use Rattle.bessel.proofs.sphj.searched_orders.Goals as goal
 
 pub returns-then-m-n : goal.returns-then-m-n

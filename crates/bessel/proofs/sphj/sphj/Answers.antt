@@ -2,7 +2,6 @@
 use mathlib.Core.Path.{sym, ◌∙◌}
 use native.Mathlib.Numerals.{add-one}
 use Rattle.bessel.proofs.Laws.{near_zero, far_off}
-use borrow.Author.Rules.{rules}
 use Rattle.bessel.proofs.sphj.sphj.Goals as goal
 
 pub returns-then-tiny : goal.returns-then-tiny

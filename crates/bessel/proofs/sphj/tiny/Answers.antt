@@ -1,6 +1,5 @@
 -- `bessel::sphj::tiny` meets its contract. Assumes nothing.
 use Rattle.bessel.specs.Sphj.{tiny}
-use borrow.Author.Rules.{rules}
 use Rattle.bessel.proofs.sphj.tiny.Goals as goal
 
 pub returns : goal.returns

@@ -1,10 +1,8 @@
 -- `bessel::sphy::fill` meets its contract. The invariant: the first k places are filled. Assumes nothing.
-use Prim.Native.Nat.{◌-◌, ◌≤◌}
 use mathlib.Core.Path.{◌≡◌, refl}
 use native.Mathlib.Omega.{arith}
 use native.Mathlib.Numerals.{add-one}
 use Rattle.bessel.specs.Sphy.{filled}
-use borrow.Author.Rules.{rules}
 use Rattle.bessel.proofs.sphy.fill.Goals as goal
 
 pub loop-k-init : goal.loop-k-init

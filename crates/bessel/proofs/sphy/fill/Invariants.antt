@@ -1,10 +1,7 @@
 -- `bessel::sphy::fill` meets its contract. The invariant: the first k places are filled. Assumes nothing.
 use Prim.Native.Nat.{◌-◌, ◌≤◌}
-use mathlib.Core.Path.{◌≡◌, refl}
-use native.Mathlib.Omega.{arith}
-use native.Mathlib.Numerals.{add-one}
+use mathlib.Core.Path.{◌≡◌}
 use Rattle.bessel.specs.Sphy.{filled}
-use borrow.Author.Rules.{rules}
 use Rattle.bessel.proofs.sphy.fill.Given as goal
 
 abbrev pub invariant-loop-k : goal.invariant-loop-k

@@ -1,6 +1,5 @@
 -- `bessel::sphy::lowest_orders` meets its contract. Assumes nothing.
 use Rattle.bessel.specs.Sphy.{lowest}
-use borrow.Author.Rules.{rules}
 use Rattle.bessel.proofs.sphy.lowest_orders.Goals as goal
 
 pub returns : goal.returns

@@ -1,11 +1,7 @@
 -- `bessel::sphy::recur` meets its contract. The invariant: the orders that are left give what all give. Assumes nothing.
 use Prim.Native.Nat.{suc, ◌-◌, ◌≤◌}
-use mathlib.Core.Path.{◌≡◌, ◌∙◌}
-use native.Mathlib.Omega.{arith}
-use native.Mathlib.Numerals.{add-one}
+use mathlib.Core.Path.{◌≡◌}
 use Rattle.bessel.specs.Sphy.{steps_up}
-use Rattle.bessel.proofs.Upward.{ends, goes_on}
-use borrow.Author.Rules.{rules}
 use Rattle.bessel.proofs.sphy.recur.Given as goal
 
 abbrev pub invariant-loop-k : goal.invariant-loop-k

@@ -2,7 +2,6 @@
 use mathlib.Core.Path.{sym, ◌∙◌}
 use native.Mathlib.Numerals.{add-one}
 use Rattle.bessel.proofs.Upward.{infinite, all_reached, cut_short}
-use borrow.Author.Rules.{rules}
 use Rattle.bessel.proofs.sphy.sphy.Goals as goal
 
 pub returns-then-near_zero : goal.returns-then-near_zero

@@ -1,5 +1,4 @@
 -- `expansion::four::concluded` meets its contract. Assumes nothing.
-use borrow.Author.Rules.{rules}
 use mathlib.Core.Path.{sym, ◌∙◌}
 use Rattle.expansion.proofs.Abreast.{from_stop, from_on}
 use Rattle.expansion.proofs.four.concluded.Goals as goal

@@ -1,5 +1,4 @@
 -- `expansion::four::first_factors` meets its contract. Assumes nothing.
-use borrow.Author.Rules.{rules}
 use mathlib.Core.Path.{◌∙◌}
 use native.Mathlib.Omega.{arith}
 use Rattle.expansion.specs.Sckb.{first_factor}

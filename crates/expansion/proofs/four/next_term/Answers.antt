@@ -1,5 +1,4 @@
 -- `expansion::four::next_term` meets its contract. Assumes nothing.
-use borrow.Author.Rules.{rules}
 use Rattle.expansion.proofs.four.next_term.Goals as goal
 
 pub returns : goal.returns

@@ -1,5 +1,4 @@
 -- `expansion::four::one_settled` meets its contract. Assumes nothing.
-use borrow.Author.Rules.{rules}
 use mathlib.Core.Path.{sym, ◌∙◌}
 use Rattle.arith.proofs.Flags.{not_taken}
 use Rattle.expansion.proofs.four.one_settled.Goals as goal

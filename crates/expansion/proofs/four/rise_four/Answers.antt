@@ -1,6 +1,4 @@
 -- `expansion::four::rise_four` meets its contract. The invariant: of each product the first i factors are multiplied. Assumes nothing.
-use borrow.Author.Rules.{rules}
-use Prim.Native.Nat.{◌+◌, ◌-◌, ◌≤◌}
 use mathlib.Core.Path.{◌≡◌, refl}
 use native.Mathlib.Omega.{arith}
 use native.Mathlib.Numerals.{add-one}

@@ -1,10 +1,7 @@
 -- `expansion::four::rise_four_by_half` meets its contract. The invariant: of each product the first i factors are multiplied. Assumes nothing.
-use borrow.Author.Rules.{rules}
-use Prim.Native.Nat.{◌+◌, ◌-◌, ◌≤◌}
 use mathlib.Core.Path.{◌≡◌, refl}
 use native.Mathlib.Omega.{arith}
 use native.Mathlib.Numerals.{add-one}
-use Rattle.arith.specs.Double.{#0·5}
 use Rattle.expansion.specs.Products.{rising_by}
 use Rattle.expansion.proofs.four.rise_four_by_half.Goals as goal
 

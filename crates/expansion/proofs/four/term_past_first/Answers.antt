@@ -1,5 +1,4 @@
 -- `expansion::four::term_past_first` meets its contract. Assumes nothing.
-use borrow.Author.Rules.{rules}
 use mathlib.Core.Path.{◌∙◌}
 use Rattle.expansion.proofs.four.term_past_first.Goals as goal
 

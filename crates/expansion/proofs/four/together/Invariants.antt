@@ -1,11 +1,6 @@
 -- `expansion::four::together` meets its contract. The invariant: the four sums end as they do from their terms past the first on. Assumes nothing.
-use borrow.Author.Rules.{rules}
 use Prim.Native.Nat.{◌+◌, ◌-◌, ◌<◌, ◌≤◌}
-use mathlib.Core.Path.{refl, ◌∙◌}
-use native.Mathlib.Omega.{arith}
 use Rattle.expansion.specs.Inside.Four.{EndAlike}
-use Rattle.expansion.proofs.Abreast.{rest_on}
-use mathlib.Core.Path.{refl}
 use Rattle.expansion.proofs.four.together.Given as goal
 
 abbrev pub invariant-loop-i : goal.invariant-loop-i

@@ -1,9 +1,6 @@
 -- `expansion::products::rise_by` meets its contract. The invariant: the first i factors are multiplied. Assumes nothing.
-use borrow.Author.Rules.{rules}
 use Prim.Native.Nat.{◌≤◌, ◌-◌}
-use mathlib.Core.Path.{◌≡◌, refl}
-use native.Mathlib.Omega.{arith}
-use native.Mathlib.Numerals.{add-one}
+use mathlib.Core.Path.{◌≡◌}
 use Rattle.expansion.specs.Products.{rising_by}
 use Rattle.expansion.proofs.products.rise_by.Given as goal
 

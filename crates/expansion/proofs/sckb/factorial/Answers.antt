@@ -1,5 +1,4 @@
 -- `expansion::sckb::factorial` meets its contract. Assumes nothing.
-use borrow.Author.Rules.{rules}
 use Rattle.expansion.specs.Sckb.{factorial}
 use Rattle.expansion.specs.Products.{rising}
 use Rattle.expansion.proofs.sckb.factorial.Goals as goal

@@ -1,10 +1,7 @@
 -- `expansion::sckb::fill_fours` meets its contract. The invariant: the coefficients before the next are in place. Assumes nothing.
-use borrow.Author.Rules.{rules}
-use Prim.Native.Nat.{◌+◌, ◌-◌, ◌≤◌}
+use Prim.Native.Nat.{◌+◌, ◌≤◌}
 use mathlib.Core.Path.{◌≡◌}
 use native.Mathlib.Omega.{arith}
-use Prim.Native.Nat.{max}
-use Rattle.expansion.specs.Inside.Carried.{Stands}
 use Rattle.expansion.proofs.Laws.{put_on}
 use Rattle.expansion.proofs.sckb.fill_fours.Goals as goal
 

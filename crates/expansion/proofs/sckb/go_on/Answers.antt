@@ -1,5 +1,4 @@
 -- `expansion::sckb::go_on` meets its contract. Assumes nothing.
-use borrow.Author.Rules.{rules}
 use native.Mathlib.Omega.{arith}
 use Rattle.expansion.proofs.sckb.go_on.Goals as goal
 

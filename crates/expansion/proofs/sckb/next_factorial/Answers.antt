@@ -1,5 +1,4 @@
 -- `expansion::sckb::next_factorial` meets its contract. Assumes nothing.
-use borrow.Author.Rules.{rules}
 use native.Mathlib.Omega.{arith}
 use Rattle.expansion.specs.Sckb.{factorial}
 use Rattle.expansion.proofs.Laws.{factorial_on}

@@ -1,5 +1,4 @@
 -- `expansion::sckb::regulator` meets its contract. Assumes nothing.
-use borrow.Author.Rules.{rules}
 use borrow.Author.Tests.{lt-ltb, le-ltb}
 use Rattle.expansion.specs.Sckb.{regulator}
 use Rattle.expansion.proofs.sckb.regulator.Goals as goal

@@ -1,5 +1,4 @@
 -- `expansion::sckb::sckb` meets its contract. Assumes nothing.
-use borrow.Author.Rules.{rules}
 use native.Mathlib.Omega.{arith}
 use Rattle.expansion.proofs.First.{stands_first, stands_last}
 use Rattle.expansion.proofs.sckb.sckb.Goals as goal

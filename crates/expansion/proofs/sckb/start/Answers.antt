@@ -1,5 +1,4 @@
 -- `expansion::sckb::start` meets its contract. The power of 1/2 is exact. Assumes nothing.
-use borrow.Author.Rules.{rules}
 use mathlib.Core.Path.{refl}
 use native.Mathlib.Omega.{arith}
 use Rattle.arith.proofs.Exact.{half_power}

@@ -1,11 +1,7 @@
 -- `expansion::sckb::sum_terms` meets its contract. The invariant: what is left to add gives what the whole gives. Assumes nothing.
-use borrow.Author.Rules.{rules}
-use Prim.Native.Nat.{suc, ◌+◌, ◌-◌, ◌<◌, ◌≤◌}
-use mathlib.Core.Path.{◌≡◌, refl, sym, ◌∙◌}
-use native.Mathlib.Omega.{arith}
-use native.Mathlib.Numerals.{add-one}
+use Prim.Native.Nat.{suc, ◌-◌, ◌<◌, ◌≤◌}
+use mathlib.Core.Path.{◌≡◌}
 use Rattle.expansion.specs.Sckb.{terms}
-use Rattle.expansion.proofs.Laws.{terms_stop, terms_on}
 use Rattle.expansion.proofs.sckb.sum_terms.Given as goal
 
 abbrev pub invariant-loop-i : goal.invariant-loop-i

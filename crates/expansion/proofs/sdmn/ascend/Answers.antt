@@ -1,5 +1,4 @@
 -- `expansion::sdmn::ascend` meets its contract. Assumes nothing.
-use borrow.Author.Rules.{rules}
 use mathlib.Core.Path.{◌∙◌}
 use borrow.Author.Tests.{eq-eqb, ne_eqb}
 use Rattle.expansion.specs.Sdmn.{ascended}

@@ -1,6 +1,5 @@
 -- `expansion::sdmn::climb` meets its contract. The invariant: what is left of the pass gives what the whole gives. Assumes nothing.
-use borrow.Author.Rules.{rules}
-use Prim.Native.Nat.{◌≤◌, ◌-◌, suc}
+use Prim.Native.Nat.{◌-◌, suc}
 use mathlib.Core.Path.{◌≡◌, refl, ◌∙◌}
 use native.Mathlib.Omega.{arith}
 use native.Mathlib.Numerals.{add-one}
@@ -18,7 +17,7 @@ loop-i-preserved c =
     let h : a.kb - l.i ≡ suc (a.kb - suc l.i) = omega arith in (
       omega arith,
       rw (add-one l.i)
-          (climb_on a.r a.kb (a.kb - suc l.i) l.i l.f1 l.f2 c.above-f.result _ _ l.df _ _ c.above-f.ensures c.Store-below.ensures c.reduce.ensures c.reduced-f1.ensures c.reduced-f2.ensures
+          (climb_on a.r a.kb (a.kb - suc l.i) l.i l.f1 l.f2 c.above-f.result _ _ l.df _ _ c.above-f.ensures c.store_below.ensures c.reduce.ensures c.reduced-f1.ensures c.reduced-f2.ensures
           ∙ rw h at l.invariant.1),
     )
 

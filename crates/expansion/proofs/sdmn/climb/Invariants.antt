@@ -1,11 +1,7 @@
 -- `expansion::sdmn::climb` meets its contract. The invariant: what is left of the pass gives what the whole gives. Assumes nothing.
-use borrow.Author.Rules.{rules}
-use Prim.Native.Nat.{◌≤◌, ◌-◌, suc}
-use mathlib.Core.Path.{◌≡◌, refl, ◌∙◌}
-use native.Mathlib.Omega.{arith}
-use native.Mathlib.Numerals.{add-one}
+use Prim.Native.Nat.{◌≤◌, ◌-◌}
+use mathlib.Core.Path.{◌≡◌}
 use Rattle.expansion.specs.Sdmn.{climbed}
-use Rattle.expansion.proofs.Laws.{climb_on}
 use Rattle.expansion.proofs.sdmn.climb.Given as goal
 
 abbrev pub invariant-loop-i : goal.invariant-loop-i

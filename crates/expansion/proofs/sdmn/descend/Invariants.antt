@@ -1,12 +1,8 @@
 -- `expansion::sdmn::descend` meets its contract. The invariant: what is left of the pass gives what the whole gives. Assumes nothing.
-use borrow.Author.Rules.{rules}
 use Prim.Native.Nat.{◌≤◌}
-use mathlib.Core.Path.{◌≡◌, refl, sym, ◌∙◌}
-use native.Mathlib.Omega.{arith}
-use borrow.Author.Tests.{not-true, not-false}
+use mathlib.Core.Path.{◌≡◌}
 use Rattle.expansion.specs.Sdmn as Sdmn
 use Rattle.expansion.specs.Sdmn.{descended}
-use Rattle.expansion.proofs.Laws.{descend_stop, descend_on}
 use Rattle.expansion.proofs.sdmn.descend.Given as goal
 
 abbrev pub invariant-loop-k : goal.invariant-loop-k

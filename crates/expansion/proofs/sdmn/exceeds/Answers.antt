@@ -1,5 +1,4 @@
 -- `expansion::sdmn::exceeds` meets its contract. Assumes nothing.
-use borrow.Author.Rules.{rules}
 use Rattle.expansion.specs.Sdmn.{exceeds}
 use Rattle.expansion.proofs.sdmn.exceeds.Goals as goal
 

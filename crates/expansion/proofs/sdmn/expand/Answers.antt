@@ -1,5 +1,4 @@
 -- `expansion::sdmn::expand` meets its contract. Assumes nothing.
-use borrow.Author.Rules.{rules}
 use Rattle.expansion.proofs.Laws.{expanded_is}
 use Rattle.expansion.proofs.sdmn.expand.Goals as goal
 

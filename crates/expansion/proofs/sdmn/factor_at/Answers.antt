@@ -1,5 +1,4 @@
 -- `expansion::sdmn::factor_at` meets its contract. Assumes nothing.
-use borrow.Author.Rules.{rules}
 use borrow.Author.Tests.{eq-eqb, ne_eqb}
 use Rattle.expansion.specs.Sdmn.{factor_at}
 use Rattle.expansion.proofs.sdmn.factor_at.Goals as goal

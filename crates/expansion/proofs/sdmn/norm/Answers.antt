@@ -1,5 +1,4 @@
 -- `expansion::sdmn::norm` meets its contract. Assumes nothing.
-use borrow.Author.Rules.{rules}
 use Rattle.expansion.specs.Sdmn.{norm_of}
 use Rattle.expansion.proofs.sdmn.norm.Goals as goal
 

@@ -1,6 +1,4 @@
 -- `expansion::sdmn::r4_of` meets its contract. The invariant: the first j factors are multiplied. Assumes nothing.
-use borrow.Author.Rules.{rules}
-use Prim.Native.Nat.{◌≤◌, ◌-◌}
 use mathlib.Core.Path.{◌≡◌, refl}
 use native.Mathlib.Omega.{arith}
 use native.Mathlib.Numerals.{add-one}

@@ -1,5 +1,4 @@
 -- `expansion::sdmn::reduced` meets its contract. Assumes nothing.
-use borrow.Author.Rules.{rules}
 use mathlib.Core.Path.{◌≡◌, sym, ◌∙◌}
 use mathlib.Core.Bool.{true, false}
 use Rattle.expansion.specs.Sdmn.{too_large, reduced}

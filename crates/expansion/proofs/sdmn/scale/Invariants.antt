@@ -1,9 +1,6 @@
 -- `expansion::sdmn::scale` meets its contract. The invariant: what is left to scale gives what the whole gives. Assumes nothing.
-use borrow.Author.Rules.{rules}
-use Prim.Native.Nat.{◌≤◌, ◌-◌, suc}
-use mathlib.Core.Path.{◌≡◌, refl}
-use native.Mathlib.Omega.{arith}
-use native.Mathlib.Numerals.{add-one}
+use Prim.Native.Nat.{◌≤◌, ◌-◌}
+use mathlib.Core.Path.{◌≡◌}
 use Rattle.expansion.specs.Sdmn.{scaled}
 use Rattle.expansion.proofs.sdmn.scale.Given as goal
 

@@ -1,5 +1,4 @@
 -- `expansion::sdmn::sdmn` meets its contract. Assumes nothing.
-use borrow.Author.Rules.{rules}
 use mathlib.Core.Path.{◌∙◌}
 use Rattle.expansion.specs.Sdmn as Sdmn
 use Rattle.expansion.specs.Sdmn.{recurrence_of}

@@ -1,5 +1,4 @@
 -- `expansion::sdmn::store_below` meets its contract. Assumes nothing.
-use borrow.Author.Rules.{rules}
 use borrow.Author.Tests.{lt-ltb, le-ltb}
 use Rattle.expansion.specs.Sdmn.{stored_below}
 use Rattle.expansion.proofs.sdmn.store_below.Goals as goal

@@ -1,10 +1,8 @@
 -- `expansion::sdmn::sum_past` meets its contract. The invariant: what is left to add gives what the whole gives. Assumes nothing.
-use borrow.Author.Rules.{rules}
-use Prim.Native.Nat.{◌≤◌, ◌-◌, ◌+◌, suc, ◌<◌}
+use Prim.Native.Nat.{◌-◌, ◌+◌, suc}
 use mathlib.Core.Path.{◌≡◌, sym, ◌∙◌}
 use native.Mathlib.Omega.{arith}
 use native.Mathlib.Numerals.{add-one}
-use Rattle.arith.specs.Double.{#0}
 use Rattle.expansion.specs.Sdmn.{sum_past}
 use Rattle.expansion.proofs.Laws.{past_stop, past_on}
 use Rattle.expansion.proofs.sdmn.sum_past.Goals as goal

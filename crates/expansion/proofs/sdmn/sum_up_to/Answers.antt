@@ -1,6 +1,5 @@
 -- `expansion::sdmn::sum_up_to` meets its contract. The invariant: what is left to add gives what the whole gives. Assumes nothing.
-use borrow.Author.Rules.{rules}
-use Prim.Native.Nat.{◌≤◌, ◌-◌, suc}
+use Prim.Native.Nat.{◌-◌, suc}
 use mathlib.Core.Path.{◌≡◌}
 use Rattle.expansion.specs.Sdmn.{sum_on, sum_up_to}
 use native.Mathlib.Omega.{arith}

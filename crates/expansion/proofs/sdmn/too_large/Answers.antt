@@ -1,5 +1,4 @@
 -- `expansion::sdmn::too_large` meets its contract. Assumes nothing.
-use borrow.Author.Rules.{rules}
 use Rattle.expansion.specs.Sdmn.{too_large}
 use Rattle.expansion.proofs.sdmn.too_large.Goals as goal
 

@@ -1,5 +1,4 @@
 -- `expansion::sums::settled` meets its contract. Assumes nothing.
-use borrow.Author.Rules.{rules}
 use Rattle.expansion.specs.Sums.{settled}
 use Rattle.expansion.proofs.sums.settled.Goals as goal
 

@@ -1,5 +1,4 @@
 -- `expansion::terms::cut` meets its contract (`proofs/Halves.antt`). Assumes nothing.
-use borrow.Author.Rules.{rules}
 use Rattle.expansion.proofs.Laws.{whole_few}
 use Rattle.expansion.proofs.Halves.{half_below}
 use Rattle.expansion.proofs.terms.cut.Goals as goal

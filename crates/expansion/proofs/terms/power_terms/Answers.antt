@@ -1,5 +1,4 @@
 -- `expansion::terms::power_terms` meets its contract. Assumes nothing.
-use borrow.Author.Rules.{rules}
 use Rattle.expansion.proofs.Laws.{clamped_below}
 use Rattle.expansion.proofs.terms.power_terms.Goals as goal
 

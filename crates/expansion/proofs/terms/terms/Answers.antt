@@ -1,6 +1,5 @@
 -- `expansion::terms::terms` meets its contract: H is below 175, and so is its whole part. Assumes nothing.
 use mathlib.Core.Path.{refl}
-use borrow.Author.Rules.{rules}
 use native.Mathlib.Omega.{arith}
 use Rattle.expansion.specs.Terms.{h_of, terms_of}
 use Rattle.expansion.proofs.Laws.{whole_few}
@@ -11,4 +10,4 @@ overflow_add-result c = let a = c.args in let few = whole_few (h_of a.offset a.c
 
 pub returns : goal.returns
 unfolding terms_of
-returns c = let a = c.args in let few = whole_few (h_of a.offset a.c) c.requires in rw (c.whole_part.ensures, c.h.ensures) (refl, (omega arith, omega (arith, few)))
+returns c = let a = c.args in let few = whole_few (h_of a.offset a.c) c.requires in rw (c.whole_part.ensures, c.h.ensures) (record { value = refl; lower_bound = (omega arith, omega (arith, few)) })

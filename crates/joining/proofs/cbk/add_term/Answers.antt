@@ -1,5 +1,4 @@
 -- `joining::cbk::add_term` meets its contract. Assumes nothing.
-use borrow.Author.Rules.{rules}
 use borrow.Author.Tests.{lt-ltb, le-ltb, eq-eqb, ne_eqb}
 use Rattle.joining.specs.Cbk.{added}
 use Rattle.joining.proofs.cbk.add_term.Goals as goal

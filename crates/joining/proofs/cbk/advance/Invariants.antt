@@ -1,11 +1,9 @@
 -- `joining::cbk::advance` meets its contract. The invariant: the products below i have a factor more. Assumes nothing.
-use borrow.Author.Rules.{rules}
-use Prim.Native.Nat.{◌+◌, ◌-◌, ◌<◌, ◌≤◌}
+use Prim.Native.Nat.{◌+◌, ◌-◌, ◌≤◌}
 use mathlib.Core.Path.{◌≡◌}
-use native.Mathlib.Omega.{arith}
-use lib.ListN.{length, length-set}
+use lib.ListN.{length}
 use Rattle.joining.specs.Cbk.{next_r1}
-use Rattle.joining.proofs.Sweep.{Swept, swept_none, swept_more}
+use Rattle.joining.proofs.Sweep.{Swept}
 use Rattle.joining.proofs.cbk.advance.Given as goal
 
 abbrev pub invariant-loop-i : goal.invariant-loop-i

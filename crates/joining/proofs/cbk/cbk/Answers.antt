@@ -1,5 +1,4 @@
 -- `joining::cbk::cbk` meets its contract. Assumes nothing.
-use borrow.Author.Rules.{rules}
 use native.Mathlib.Omega.{arith}
 use Rattle.joining.proofs.Laws.{cbk_is}
 use Rattle.joining.proofs.cbk.cbk.Goals as goal

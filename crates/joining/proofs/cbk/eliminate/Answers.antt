@@ -1,5 +1,4 @@
 -- `joining::cbk::eliminate` meets its contract. Assumes nothing.
-use borrow.Author.Rules.{rules}
 use Rattle.joining.specs.Cbk.{eliminated}
 use Rattle.joining.proofs.cbk.eliminate.Goals as goal
 

@@ -1,10 +1,8 @@
 -- `joining::cbk::eliminate_rows` meets its contract. The invariant: k rows are eliminated. Assumes nothing.
-use borrow.Author.Rules.{rules}
-use Prim.Native.Nat.{◌-◌, ◌≤◌}
 use mathlib.Core.Path.{◌≡◌, refl}
 use native.Mathlib.Omega.{arith}
 use native.Mathlib.Numerals.{add-one}
-use Rattle.joining.specs.Cbk.{solved, rows}
+use Rattle.joining.specs.Cbk.{rows}
 use Rattle.joining.proofs.Laws.{rows_on}
 use Rattle.joining.proofs.cbk.eliminate_rows.Goals as goal
 

@@ -1,11 +1,7 @@
 -- `joining::cbk::eliminate_rows` meets its contract. The invariant: k rows are eliminated. Assumes nothing.
-use borrow.Author.Rules.{rules}
 use Prim.Native.Nat.{◌-◌, ◌≤◌}
-use mathlib.Core.Path.{◌≡◌, refl}
-use native.Mathlib.Omega.{arith}
-use native.Mathlib.Numerals.{add-one}
+use mathlib.Core.Path.{◌≡◌}
 use Rattle.joining.specs.Cbk.{solved, rows}
-use Rattle.joining.proofs.Laws.{rows_on}
 use Rattle.joining.proofs.cbk.eliminate_rows.Given as goal
 
 abbrev pub invariant-loop-k : goal.invariant-loop-k

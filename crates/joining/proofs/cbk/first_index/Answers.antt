@@ -1,5 +1,4 @@
 -- `joining::cbk::first_index` meets its contract: the machine's difference is the integers'. Assumes nothing.
-use borrow.Author.Rules.{rules}
 use native.Mathlib.Omega.{arith}
 use Rattle.joining.proofs.Signed as signed
 use Rattle.joining.proofs.cbk.first_index.Goals as goal

@@ -1,13 +1,12 @@
 -- `joining::cbk::right_sides` meets its contract. The invariant: what is left to fill gives what the whole gives, and the products are kept. Assumes nothing.
-use borrow.Author.Rules.{rules}
-use Prim.Native.Nat.{◌-◌, ◌≤◌, suc, ◌+◌}
+use Prim.Native.Nat.{◌-◌, suc, ◌+◌}
 use mathlib.Core.Path.{◌≡◌, ap, ◌∙◌}
 use native.Mathlib.Omega.{arith}
 use lib.ListN.{length, get_or-replicate, length-replicate}
-use Rattle.arith.specs.Double.{#0, at, #1}
+use Rattle.arith.specs.Double.{at, #1}
 use Rattle.expansion.specs.Sums.{blank}
-use Rattle.joining.specs.Inside.Kept.{ones, Holds}
-use Rattle.joining.specs.Cbk.{first_index, right_sides, r1_at, next_r1}
+use Rattle.joining.specs.Inside.Kept.{ones}
+use Rattle.joining.specs.Cbk.{right_sides, r1_at, next_r1}
 use native.Mathlib.Numerals.{add-one}
 use native.Mathlib.Nat.{sub-zero}
 use mathlib.Core.List.{List}

@@ -1,18 +1,11 @@
 -- `joining::cbk::right_sides` meets its contract. The invariant: what is left to fill gives what the whole gives, and the products are kept. Assumes nothing.
-use borrow.Author.Rules.{rules}
-use Prim.Native.Nat.{◌-◌, ◌≤◌, suc, ◌+◌}
-use mathlib.Core.Path.{◌≡◌, ap, ◌∙◌}
-use native.Mathlib.Omega.{arith}
-use lib.ListN.{length, get_or-replicate, length-replicate}
-use Rattle.arith.specs.Double.{#0, at, #1}
+use Prim.Native.Nat.{◌-◌, ◌≤◌}
+use mathlib.Core.Path.{◌≡◌}
+use lib.ListN.{length}
+use Rattle.arith.specs.Double.{#0}
 use Rattle.expansion.specs.Sums.{blank}
-use Rattle.joining.specs.Inside.Kept.{ones, Holds}
-use Rattle.joining.specs.Cbk.{first_index, right_sides, r1_at, next_r1}
-use native.Mathlib.Numerals.{add-one}
-use native.Mathlib.Nat.{sub-zero}
-use mathlib.Core.List.{List}
-use lib.Ieee.{Float, nan}
-use Rattle.joining.proofs.Signed.{first_is}
+use Rattle.joining.specs.Inside.Kept.{Holds}
+use Rattle.joining.specs.Cbk.{first_index, right_sides}
 use Rattle.joining.proofs.cbk.right_sides.Given as goal
 
 abbrev pub invariant-loop-k : goal.invariant-loop-k

@@ -1,10 +1,8 @@
 -- `joining::cbk::s1_from` meets its contract. The invariant: what is left to add gives what the whole gives. Assumes nothing.
-use borrow.Author.Rules.{rules}
-use Prim.Native.Nat.{suc, ◌+◌, ◌-◌, ◌≤◌}
+use Prim.Native.Nat.{suc, ◌+◌, ◌-◌}
 use mathlib.Core.Path.{◌≡◌, refl, sym, ◌∙◌}
 use native.Mathlib.Omega.{arith}
 use native.Mathlib.Numerals.{add-one}
-use Rattle.arith.specs.Double.{#0}
 use Rattle.joining.specs.Cbk.{s1_from}
 use Rattle.joining.proofs.Laws.{s1_stop, s1_on}
 use Rattle.joining.proofs.cbk.s1_from.Goals as goal

@@ -1,12 +1,8 @@
 -- `joining::cbk::s1_from` meets its contract. The invariant: what is left to add gives what the whole gives. Assumes nothing.
-use borrow.Author.Rules.{rules}
-use Prim.Native.Nat.{suc, ◌+◌, ◌-◌, ◌≤◌}
-use mathlib.Core.Path.{◌≡◌, refl, sym, ◌∙◌}
-use native.Mathlib.Omega.{arith}
-use native.Mathlib.Numerals.{add-one}
+use Prim.Native.Nat.{◌+◌, ◌-◌, ◌≤◌}
+use mathlib.Core.Path.{◌≡◌}
 use Rattle.arith.specs.Double.{#0}
 use Rattle.joining.specs.Cbk.{s1_from}
-use Rattle.joining.proofs.Laws.{s1_stop, s1_on}
 use Rattle.joining.proofs.cbk.s1_from.Given as goal
 
 abbrev pub invariant-loop-i : goal.invariant-loop-i

@@ -1,9 +1,6 @@
 -- `joining::cbk::substitute` meets its contract. The invariant: what is left to substitute gives what the whole gives. Assumes nothing.
-use borrow.Author.Rules.{rules}
-use Prim.Native.Nat.{suc, ◌-◌, ◌≤◌}
-use mathlib.Core.Path.{◌≡◌, refl}
-use native.Mathlib.Omega.{arith}
-use native.Mathlib.Numerals.{add-one}
+use Prim.Native.Nat.{◌≤◌}
+use mathlib.Core.Path.{◌≡◌}
 use Rattle.joining.specs.Cbk.{substituted}
 use Rattle.joining.proofs.cbk.substitute.Given as goal
 

@@ -1,5 +1,4 @@
 -- `joining::cbk::v_at` meets its contract: the machine's difference is the integers'. Assumes nothing.
-use borrow.Author.Rules.{rules}
 use native.Mathlib.Omega.{arith}
 use Rattle.joining.proofs.Signed as signed
 use Rattle.joining.proofs.cbk.v_at.Goals as goal

@@ -1,5 +1,4 @@
 -- `joining::kmn::kmn` meets its contract. Assumes nothing.
-use borrow.Author.Rules.{rules}
 use Rattle.joining.specs.Kmn as Kmn
 use Rattle.joining.proofs.kmn.kmn.Goals as goal
 

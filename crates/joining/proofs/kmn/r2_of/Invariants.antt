@@ -1,9 +1,6 @@
 -- `joining::kmn::r2_of` meets its contract. The invariant: the first j factors are multiplied. Assumes nothing.
-use borrow.Author.Rules.{rules}
 use Prim.Native.Nat.{◌-◌, ◌≤◌}
-use mathlib.Core.Path.{◌≡◌, refl}
-use native.Mathlib.Omega.{arith}
-use native.Mathlib.Numerals.{add-one}
+use mathlib.Core.Path.{◌≡◌}
 use Rattle.joining.specs.Kmn.{r2_of}
 use Rattle.joining.proofs.kmn.r2_of.Given as goal
 

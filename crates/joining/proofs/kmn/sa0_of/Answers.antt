@@ -1,5 +1,4 @@
 -- `joining::kmn::sa0_of` meets its contract. Assumes nothing.
-use borrow.Author.Rules.{rules}
 use Rattle.joining.specs.Kmn.{sa0_of}
 use Rattle.joining.proofs.kmn.sa0_of.Goals as goal
 

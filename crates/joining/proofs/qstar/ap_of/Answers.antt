@@ -1,7 +1,5 @@
 -- `joining::qstar::ap_of` meets its contract. The invariant: ap is filled up to i. Assumes nothing.
-use borrow.Author.Rules.{rules}
-use Prim.Native.Nat.{◌-◌, ◌≤◌}
-use mathlib.Core.Path.{◌≡◌, ap}
+use mathlib.Core.Path.{◌≡◌}
 use native.Mathlib.Omega.{arith}
 use Rattle.joining.specs.Qstar.{ap_up_to}
 use Rattle.joining.proofs.Laws.{ap_on}

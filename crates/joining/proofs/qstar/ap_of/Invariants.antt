@@ -1,10 +1,7 @@
 -- `joining::qstar::ap_of` meets its contract. The invariant: ap is filled up to i. Assumes nothing.
-use borrow.Author.Rules.{rules}
 use Prim.Native.Nat.{◌-◌, ◌≤◌}
-use mathlib.Core.Path.{◌≡◌, ap}
-use native.Mathlib.Omega.{arith}
+use mathlib.Core.Path.{◌≡◌}
 use Rattle.joining.specs.Qstar.{ap_up_to}
-use Rattle.joining.proofs.Laws.{ap_on}
 use Rattle.joining.proofs.qstar.ap_of.Given as goal
 
 abbrev pub invariant-loop-i : goal.invariant-loop-i

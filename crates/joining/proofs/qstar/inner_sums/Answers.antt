@@ -1,13 +1,11 @@
 -- `joining::qstar::inner_sums` meets its contract. The invariant: the first l sums are kept. Assumes nothing.
-use borrow.Author.Rules.{rules}
-use Prim.Native.Nat.{◌+◌, ◌-◌, ◌≤◌}
-use mathlib.Core.Path.{◌≡◌, ap, ◌∙◌}
+use mathlib.Core.Path.{ap, ◌∙◌}
 use native.Mathlib.Omega.{arith}
 use lib.ListN.{length, length-set, length-replicate}
 use Rattle.arith.specs.Double.{#0}
 use Rattle.expansion.specs.Sums.{blank}
 use Rattle.joining.specs.Qstar.{sk_of}
-use Rattle.joining.proofs.Laws.{Table, table_none, table_more}
+use Rattle.joining.proofs.Laws.{table_none, table_more}
 use Rattle.joining.proofs.qstar.inner_sums.Goals as goal
 
 pub loop-l-init : goal.loop-l-init

@@ -1,13 +1,9 @@
 -- `joining::qstar::inner_sums` meets its contract. The invariant: the first l sums are kept. Assumes nothing.
-use borrow.Author.Rules.{rules}
 use Prim.Native.Nat.{◌+◌, ◌-◌, ◌≤◌}
-use mathlib.Core.Path.{◌≡◌, ap, ◌∙◌}
-use native.Mathlib.Omega.{arith}
-use lib.ListN.{length, length-set, length-replicate}
-use Rattle.arith.specs.Double.{#0}
-use Rattle.expansion.specs.Sums.{blank}
+use mathlib.Core.Path.{◌≡◌}
+use lib.ListN.{length}
 use Rattle.joining.specs.Qstar.{sk_of}
-use Rattle.joining.proofs.Laws.{Table, table_none, table_more}
+use Rattle.joining.proofs.Laws.{Table}
 use Rattle.joining.proofs.qstar.inner_sums.Given as goal
 
 abbrev pub invariant-loop-l : goal.invariant-loop-l

@@ -1,7 +1,5 @@
 -- `joining::qstar::qs0_of` meets its contract. The invariant: the first l terms are added, and their product is carried. Assumes nothing.
-use borrow.Author.Rules.{rules}
-use Prim.Native.Nat.{◌-◌, ◌≤◌}
-use mathlib.Core.Path.{◌≡◌, refl, ap}
+use mathlib.Core.Path.{◌≡◌, refl}
 use native.Mathlib.Omega.{arith}
 use native.Mathlib.Numerals.{add-one}
 use Rattle.joining.specs.Qstar.{product_of, qs0_at}

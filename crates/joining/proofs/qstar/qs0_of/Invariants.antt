@@ -1,9 +1,6 @@
 -- `joining::qstar::qs0_of` meets its contract. The invariant: the first l terms are added, and their product is carried. Assumes nothing.
-use borrow.Author.Rules.{rules}
 use Prim.Native.Nat.{◌-◌, ◌≤◌}
-use mathlib.Core.Path.{◌≡◌, refl, ap}
-use native.Mathlib.Omega.{arith}
-use native.Mathlib.Numerals.{add-one}
+use mathlib.Core.Path.{◌≡◌}
 use Rattle.joining.specs.Qstar.{product_of, qs0_at}
 use Rattle.joining.proofs.qstar.qs0_of.Given as goal
 

@@ -1,5 +1,4 @@
 -- `joining::qstar::qstar` meets its contract. Assumes nothing.
-use borrow.Author.Rules.{rules}
 use Rattle.joining.specs.Qstar as Qstar
 use Rattle.joining.proofs.qstar.qstar.Goals as goal
 

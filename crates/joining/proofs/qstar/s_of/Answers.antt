@@ -1,10 +1,7 @@
 -- `joining::qstar::s_of` meets its contract. The invariant: the first l terms are added. Assumes nothing.
-use borrow.Author.Rules.{rules}
-use Prim.Native.Nat.{◌-◌, ◌≤◌}
-use mathlib.Core.Path.{◌≡◌, refl, ap}
+use mathlib.Core.Path.{◌≡◌, refl}
 use native.Mathlib.Omega.{arith}
 use native.Mathlib.Numerals.{add-one}
-use Rattle.arith.specs.Double.{at}
 use Rattle.joining.specs.Qstar.{s_at}
 use Rattle.joining.proofs.qstar.s_of.Goals as goal
 

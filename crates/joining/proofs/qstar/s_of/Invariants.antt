@@ -1,9 +1,6 @@
 -- `joining::qstar::s_of` meets its contract. The invariant: the first l terms are added. Assumes nothing.
-use borrow.Author.Rules.{rules}
 use Prim.Native.Nat.{◌-◌, ◌≤◌}
-use mathlib.Core.Path.{◌≡◌, refl, ap}
-use native.Mathlib.Omega.{arith}
-use native.Mathlib.Numerals.{add-one}
+use mathlib.Core.Path.{◌≡◌}
 use Rattle.arith.specs.Double.{at}
 use Rattle.joining.specs.Qstar.{s_at}
 use Rattle.joining.proofs.qstar.s_of.Given as goal

@@ -1,9 +1,6 @@
 -- `joining::qstar::sk_of` meets its contract. The invariant: the first k terms are added. Assumes nothing.
-use borrow.Author.Rules.{rules}
 use Prim.Native.Nat.{◌+◌, ◌-◌, ◌≤◌}
-use mathlib.Core.Path.{◌≡◌, refl}
-use native.Mathlib.Omega.{arith}
-use native.Mathlib.Numerals.{add-one}
+use mathlib.Core.Path.{◌≡◌}
 use Rattle.joining.specs.Qstar.{sk_at}
 use Rattle.joining.proofs.qstar.sk_of.Given as goal
 

@@ -1,11 +1,7 @@
 -- `joining::sums::expansion_partial` meets its contract. The invariant: what is left to add gives what the whole gives. Assumes nothing.
-use borrow.Author.Rules.{rules}
-use Prim.Native.Nat.{suc, ◌+◌, ◌-◌, ◌≤◌}
-use mathlib.Core.Path.{◌≡◌, sym, ◌∙◌}
-use native.Mathlib.Omega.{arith}
-use native.Mathlib.Numerals.{add-one}
+use Prim.Native.Nat.{suc, ◌-◌, ◌≤◌}
+use mathlib.Core.Path.{◌≡◌}
 use Rattle.joining.specs.Sums.{sum_on, expansion_partial}
-use Rattle.joining.proofs.Laws.{sum_stop, sum_on_lem}
 use Rattle.joining.proofs.sums.expansion_partial.Given as goal
 
 abbrev pub invariant-loop-k : goal.invariant-loop-k

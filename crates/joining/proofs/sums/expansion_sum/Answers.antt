@@ -1,5 +1,4 @@
 -- `joining::sums::expansion_sum` meets its contract. Assumes nothing.
-use borrow.Author.Rules.{rules}
 use Rattle.joining.proofs.sums.expansion_sum.Goals as goal
 
 pub returns : goal.returns

@@ -1,5 +1,4 @@
 -- `joining::sums::sa0_above` meets its contract. Assumes nothing.
-use borrow.Author.Rules.{rules}
 use Rattle.joining.specs.Sums.{sa0_above}
 use Rattle.joining.proofs.sums.sa0_above.Goals as goal
 

@@ -1,5 +1,4 @@
 -- `joining::sums::sa0_below` meets its contract. The power of 2 is exact. Assumes nothing.
-use borrow.Author.Rules.{rules}
 use native.Mathlib.Omega.{arith}
 use Rattle.arith.proofs.Exact.{two_power}
 use Rattle.joining.specs.Sums.{sa0_below}

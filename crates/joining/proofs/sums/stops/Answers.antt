@@ -1,5 +1,4 @@
 -- `joining::sums::stops` meets its contract. Assumes nothing.
-use borrow.Author.Rules.{rules}
 use borrow.Author.Tests.{lt-ltb, le-ltb}
 use Rattle.joining.specs.Sums.{stops}
 use Rattle.joining.proofs.sums.stops.Goals as goal

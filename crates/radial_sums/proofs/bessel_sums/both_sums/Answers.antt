@@ -1,12 +1,11 @@
 -- `radial_sums::bessel_sums::both_sums` meets its contract. The invariant: for each sum, what is left to add gives what the whole gives. Assumes nothing.
-use Prim.Native.Nat.{suc, ◌-◌, ◌≤◌}
+use Prim.Native.Nat.{suc, ◌-◌}
 use mathlib.Core.Path.{◌≡◌, ◌∙◌}
 use native.Mathlib.Omega.{arith}
 use native.Mathlib.Numerals.{add-one}
 use native.Mathlib.Nat.{sub-zero}
-use Rattle.radial_sums.specs.BesselSums.{bessel_on, sum_from, bessel_sum}
+use Rattle.radial_sums.specs.BesselSums.{bessel_on}
 use Rattle.radial_sums.proofs.Laws.{bessel_stop, bessel_on_lem, sums_are}
-use borrow.Author.Rules.{rules}
 use Rattle.radial_sums.proofs.bessel_sums.both_sums.Goals as goal
 
 pub loop-j-init : goal.loop-j-init

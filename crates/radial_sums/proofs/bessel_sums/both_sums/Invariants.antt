@@ -1,12 +1,7 @@
 -- `radial_sums::bessel_sums::both_sums` meets its contract. The invariant: for each sum, what is left to add gives what the whole gives. Assumes nothing.
-use Prim.Native.Nat.{suc, ◌-◌, ◌≤◌}
-use mathlib.Core.Path.{◌≡◌, ◌∙◌}
-use native.Mathlib.Omega.{arith}
-use native.Mathlib.Numerals.{add-one}
-use native.Mathlib.Nat.{sub-zero}
-use Rattle.radial_sums.specs.BesselSums.{bessel_on, sum_from, bessel_sum}
-use Rattle.radial_sums.proofs.Laws.{bessel_stop, bessel_on_lem, sums_are}
-use borrow.Author.Rules.{rules}
+use Prim.Native.Nat.{◌-◌, ◌≤◌}
+use mathlib.Core.Path.{◌≡◌}
+use Rattle.radial_sums.specs.BesselSums.{sum_from, bessel_sum}
 use Rattle.radial_sums.proofs.bessel_sums.both_sums.Given as goal
 
 abbrev pub invariant-loop-j : goal.invariant-loop-j

@@ -1,7 +1,6 @@
 -- `radial_sums::bessel_sums::factor` meets its contract. Assumes nothing.
 use borrow.Author.Tests.{eq-eqb, ne_eqb}
 use Rattle.radial_sums.specs.BesselSums.{factor}
-use borrow.Author.Rules.{rules}
 use Rattle.radial_sums.proofs.bessel_sums.factor.Goals as goal
 
 pub returns-then-j-eq0 : goal.returns-then-j-eq0

@@ -1,7 +1,6 @@
 -- `radial_sums::bessel_sums::lg` meets its contract. Assumes nothing.
 use borrow.Author.Tests.{eq-eqb, ne_eqb}
 use Rattle.radial_sums.specs.BesselSums.{lg}
-use borrow.Author.Rules.{rules}
 use Rattle.radial_sums.proofs.bessel_sums.lg.Goals as goal
 
 pub returns-then-half-j-eq0 : goal.returns-then-half-j-eq0

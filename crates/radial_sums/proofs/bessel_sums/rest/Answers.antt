@@ -1,11 +1,10 @@
 -- `radial_sums::bessel_sums::rest` meets its contract. The invariant: what is left to add gives what the whole gives. Assumes nothing.
-use Prim.Native.Nat.{suc, ◌-◌, ◌≤◌}
+use Prim.Native.Nat.{suc, ◌-◌}
 use mathlib.Core.Path.{◌≡◌, refl, ◌∙◌}
 use native.Mathlib.Omega.{arith}
 use native.Mathlib.Numerals.{add-one}
-use Rattle.radial_sums.specs.BesselSums.{bessel_on, sum_from}
+use Rattle.radial_sums.specs.BesselSums.{bessel_on}
 use Rattle.radial_sums.proofs.Laws.{bessel_stop, bessel_on_lem}
-use borrow.Author.Rules.{rules}
 use Rattle.radial_sums.proofs.bessel_sums.rest.Goals as goal
 
 pub loop-j-init : goal.loop-j-init

@@ -1,11 +1,7 @@
 -- `radial_sums::bessel_sums::rest` meets its contract. The invariant: what is left to add gives what the whole gives. Assumes nothing.
-use Prim.Native.Nat.{suc, ◌-◌, ◌≤◌}
-use mathlib.Core.Path.{◌≡◌, refl, ◌∙◌}
-use native.Mathlib.Omega.{arith}
-use native.Mathlib.Numerals.{add-one}
-use Rattle.radial_sums.specs.BesselSums.{bessel_on, sum_from}
-use Rattle.radial_sums.proofs.Laws.{bessel_stop, bessel_on_lem}
-use borrow.Author.Rules.{rules}
+use Prim.Native.Nat.{◌-◌, ◌≤◌}
+use mathlib.Core.Path.{◌≡◌}
+use Rattle.radial_sums.specs.BesselSums.{sum_from}
 use Rattle.radial_sums.proofs.bessel_sums.rest.Given as goal
 
 abbrev pub invariant-loop-j : goal.invariant-loop-j

@@ -1,5 +1,4 @@
 -- `radial_sums::common::find_common` meets its contract. Assumes nothing.
-use borrow.Author.Rules.{rules}
 use Rattle.radial_sums.specs.Common.{common}
 use Rattle.radial_sums.proofs.common.find_common.Goals as goal
 

@@ -1,6 +1,5 @@
 -- `radial_sums::limits::first_terms` meets its contract: the whole part of c and that of (n − m)/2 are below 175 together, and at most the whole part of H. Assumes nothing.
 use mathlib.Core.Path.{refl}
-use borrow.Author.Rules.{rules}
 use native.Mathlib.Omega.{arith}
 use Rattle.expansion.proofs.Halves.{whole_and_part, whole_at_most}
 use Rattle.expansion.specs.Terms.{terms_of}
@@ -19,4 +18,4 @@ returns c =
     let p = c.requires in
     let few = whole_and_part c.args.offset c.args.c p.0 p.1 p.2 in
     let most = whole_at_most c.args.offset c.args.c p.0 p.1 p.2 in
-    rw c.whole_part.ensures (refl, (omega arith, omega (arith, few), omega (arith, most)))
+    rw c.whole_part.ensures (record { value = refl; lower_bound = (omega arith, omega (arith, few), omega (arith, most)) })

@@ -1,5 +1,4 @@
 -- `radial_sums::limits::second_terms` meets its contract. Assumes nothing.
-use borrow.Author.Rules.{rules}
 use native.Mathlib.Omega.{arith}
 use Rattle.radial_sums.specs.Limits.{second_terms}
 use Rattle.radial_sums.proofs.limits.second_terms.Goals as goal

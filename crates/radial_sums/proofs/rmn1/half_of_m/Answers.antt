@@ -1,7 +1,6 @@
 -- `radial_sums::rmn1::half_of_m` meets its contract. Assumes nothing.
 use borrow.Author.Tests.{eq-eqb, ne_eqb}
 use Rattle.radial_sums.specs.Rmn1.{to_half}
-use borrow.Author.Rules.{rules}
 use Rattle.radial_sums.proofs.rmn1.half_of_m.Goals as goal
 
 pub returns-then-m-eq0 : goal.returns-then-m-eq0

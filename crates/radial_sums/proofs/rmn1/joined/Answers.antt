@@ -1,6 +1,5 @@
 -- `radial_sums::rmn1::joined` meets its contract. Assumes nothing.
 use Rattle.radial_sums.specs.Rmn1.{joined}
-use borrow.Author.Rules.{rules}
 use Rattle.radial_sums.proofs.rmn1.joined.Goals as goal
 
 pub returns : goal.returns

@@ -2,7 +2,6 @@
 use native.Mathlib.Omega.{arith}
 use borrow.Author.Tests.{eq-eqb, ne_eqb}
 use Rattle.radial_sums.proofs.Laws.{no_order, with_order, orders_fit}
-use borrow.Author.Rules.{rules}
 use Rattle.radial_sums.proofs.rmn1.off_disc.Goals as goal
 
 pub returns-then-orders-eq0 : goal.returns-then-orders-eq0

@@ -1,5 +1,4 @@
 -- `radial_sums::rmn1::on_disc` meets its contract. Assumes nothing.
-use borrow.Author.Rules.{rules}
 use mathlib.Core.Path.{◌∙◌}
 use Rattle.radial_sums.specs.Rmn1 as Rmn1
 use Rattle.radial_sums.proofs.rmn1.on_disc.Goals as goal

@@ -1,12 +1,7 @@
 -- `radial_sums::rmn1::powers_sum` meets its contract. The invariant: what is left to add gives what the whole gives. Assumes nothing.
-use borrow.Author.Rules.{rules}
-use Prim.Native.Nat.{suc, ◌-◌, ◌≤◌}
-use mathlib.Core.Path.{◌≡◌, sym, ◌∙◌}
-use native.Mathlib.Omega.{arith}
-use native.Mathlib.Numerals.{add-one}
-use native.Mathlib.Nat.{sub-zero}
+use Prim.Native.Nat.{◌-◌, ◌≤◌}
+use mathlib.Core.Path.{◌≡◌}
 use Rattle.radial_sums.specs.Rmn1.{powers_on, powers_sum}
-use Rattle.radial_sums.proofs.Laws.{powers_stop, powers_on_lem}
 use Rattle.radial_sums.proofs.rmn1.powers_sum.Given as goal
 
 abbrev pub invariant-loop-j : goal.invariant-loop-j

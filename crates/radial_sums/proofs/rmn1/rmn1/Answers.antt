@@ -1,7 +1,6 @@
 -- `radial_sums::rmn1::rmn1` meets its contract. Assumes nothing.
 use mathlib.Core.Path.{◌∙◌}
 use Rattle.radial_sums.proofs.Laws.{at_zero, off_zero}
-use borrow.Author.Rules.{rules}
 use Rattle.radial_sums.proofs.rmn1.rmn1.Goals as goal
 
 pub returns-then-x : goal.returns-then-x

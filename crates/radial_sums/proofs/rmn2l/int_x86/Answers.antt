@@ -1,14 +1,14 @@
 -- `radial_sums::rmn2l::int_x86` meets its contract. Assumes nothing.
 use mathlib.Core.Path.{◌∙◌, sym}
-use borrow.Author.Rules.{rules}
 use lib.Ieee.Casts.{to_signed_in}
 use mir.Facts.{to_z-of_z}
+use mir.Syntax.{w32}
 use Rattle.radial_sums.specs.Rmn2l.{int_x86}
 use Rattle.radial_sums.proofs.rmn2l.int_x86.Goals as goal
 
 pub returns-then-x-2 : goal.returns-then-x-2
 unfolding int_x86
-returns-then-x-2 c = rw (c.if-x.true, c.if-x-2.true) (to_z-of_z (record { sfits = rw c.truncate.ensures (to_signed_in 31 c.args.x) }) ∙ c.truncate.ensures)
+returns-then-x-2 c = rw (c.if-x.true, c.if-x-2.true) (to_z-of_z {w = w32} (record { sfits = rw c.truncate.ensures (to_signed_in 31 c.args.x) }) ∙ c.truncate.ensures)
 
 pub returns-then-x : goal.returns-then-x
 unfolding int_x86

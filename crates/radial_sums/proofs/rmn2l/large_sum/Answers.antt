@@ -1,12 +1,11 @@
 -- `radial_sums::rmn2l::large_sum` meets its contract. The invariant: what is left to add gives what the whole gives. Assumes nothing.
-use Prim.Native.Nat.{suc, ◌-◌, ◌≤◌}
+use Prim.Native.Nat.{suc, ◌-◌}
 use mathlib.Core.Path.{◌≡◌, ◌∙◌}
 use native.Mathlib.Omega.{arith}
 use native.Mathlib.Numerals.{add-one}
 use native.Mathlib.Nat.{sub-zero}
-use Rattle.radial_sums.specs.Rmn2l.{large_on, large_sum}
+use Rattle.radial_sums.specs.Rmn2l.{large_on}
 use Rattle.radial_sums.proofs.Laws.{large_stop, large_on_lem}
-use borrow.Author.Rules.{rules}
 use Rattle.radial_sums.proofs.rmn2l.large_sum.Goals as goal
 
 pub loop-j-init : goal.loop-j-init

@@ -1,12 +1,7 @@
 -- `radial_sums::rmn2l::large_sum` meets its contract. The invariant: what is left to add gives what the whole gives. Assumes nothing.
-use Prim.Native.Nat.{suc, ◌-◌, ◌≤◌}
-use mathlib.Core.Path.{◌≡◌, ◌∙◌}
-use native.Mathlib.Omega.{arith}
-use native.Mathlib.Numerals.{add-one}
-use native.Mathlib.Nat.{sub-zero}
+use Prim.Native.Nat.{◌-◌, ◌≤◌}
+use mathlib.Core.Path.{◌≡◌}
 use Rattle.radial_sums.specs.Rmn2l.{large_on, large_sum}
-use Rattle.radial_sums.proofs.Laws.{large_stop, large_on_lem}
-use borrow.Author.Rules.{rules}
 use Rattle.radial_sums.proofs.rmn2l.large_sum.Given as goal
 
 abbrev pub invariant-loop-j : goal.invariant-loop-j

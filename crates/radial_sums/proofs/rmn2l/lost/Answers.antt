@@ -1,5 +1,4 @@
 -- `radial_sums::rmn2l::lost` meets its contract. Assumes nothing.
-use borrow.Author.Rules.{rules}
 use mir.Syntax.{w32}
 use mir.Facts.{to_z-of_z}
 use Rattle.radial_sums.proofs.Laws.{int_fits}

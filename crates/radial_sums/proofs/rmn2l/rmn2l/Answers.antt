@@ -2,7 +2,6 @@
 use mathlib.Core.Path.{sym, ◌∙◌}
 use borrow.Author.Tests.{le-leb, lt-leb}
 use Rattle.radial_sums.proofs.Laws.{too_few_orders, value_lost, slope_lost, both_kept}
-use borrow.Author.Rules.{rules}
 use Rattle.radial_sums.proofs.rmn2l.rmn2l.Goals as goal
 
 pub returns-then-highest-f : goal.returns-then-highest-f

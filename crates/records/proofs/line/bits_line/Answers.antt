@@ -1,7 +1,6 @@
 -- `records::line::bits_line` meets its contract: one text after another. Assumes nothing.
 use native.Mathlib.Omega.{arith}
 use Rattle.records.proofs.Laws.{put_then}
-use borrow.Author.Rules.{rules}
 use Rattle.records.proofs.line.bits_line.Goals as goal
 
 pub returns : goal.returns

@@ -1,6 +1,5 @@
 -- `records::line::d_line` meets its contract. A u16 has at most 5 digits. Assumes nothing.
 use native.Mathlib.Omega.{arith}
-use borrow.Author.Rules.{rules}
 use Rattle.records.proofs.Laws.{put_then, decimal_length}
 use Rattle.records.proofs.line.d_line.Goals as goal
 

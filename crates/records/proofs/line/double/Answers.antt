@@ -1,6 +1,5 @@
 -- `records::line::double` meets its contract: one text after another. Assumes nothing.
 use native.Mathlib.Omega.{arith}
-use borrow.Author.Rules.{rules}
 use Rattle.records.proofs.Laws.{put_then}
 use Rattle.records.proofs.line.double.Goals as goal
 

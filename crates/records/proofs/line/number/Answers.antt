@@ -1,5 +1,4 @@
 -- `records::line::number` meets its contract: one text after another. Assumes nothing.
-use borrow.Author.Rules.{rules}
 use Rattle.records.proofs.Laws.{put_then}
 use Rattle.records.proofs.line.number.Goals as goal
 

@@ -1,5 +1,4 @@
 -- `records::line::pair_line` meets its contract: one text after another. Assumes nothing.
-use borrow.Author.Rules.{rules}
 use native.Mathlib.Omega.{arith}
 use Rattle.records.proofs.Laws.{put_then}
 use Rattle.records.proofs.line.pair_line.Goals as goal

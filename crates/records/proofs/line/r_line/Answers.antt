@@ -1,6 +1,5 @@
 -- `records::line::r_line` meets its contract. A u8 has at most 3 digits. Assumes nothing.
 use native.Mathlib.Omega.{arith}
-use borrow.Author.Rules.{rules}
 use Rattle.records.proofs.Laws.{put_then, decimal_length}
 use Rattle.records.proofs.line.r_line.Goals as goal
 

@@ -1,6 +1,5 @@
 -- `records::line::start` meets its contract. A u64 has at most 20 digits. Assumes nothing.
 use native.Mathlib.Omega.{arith}
-use borrow.Author.Rules.{rules}
 use Rattle.records.proofs.Laws.{put_then, decimal_length}
 use Rattle.records.proofs.line.start.Goals as goal
 

@@ -1,5 +1,4 @@
 -- `records::line::start_of_mode` meets its contract. A u16 has at most 5 digits. Assumes nothing.
-use borrow.Author.Rules.{rules}
 use native.Mathlib.Omega.{arith}
 use Rattle.records.proofs.Laws.{put_then, decimal_length}
 use Rattle.records.proofs.line.start_of_mode.Goals as goal

@@ -1,6 +1,5 @@
 -- `records::line::v_line` meets its contract. A u16 has at most 5 digits, a u32 at most 10. Assumes nothing.
 use native.Mathlib.Omega.{arith}
-use borrow.Author.Rules.{rules}
 use Rattle.records.proofs.Laws.{put_then, decimal_length}
 use Rattle.records.proofs.line.v_line.Goals as goal
 

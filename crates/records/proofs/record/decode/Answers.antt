@@ -1,5 +1,4 @@
 -- `records::record::decode` meets its contract. Assumes nothing.
-use borrow.Author.Rules.{rules}
 use Rattle.records.proofs.record.decode.Goals as goal
 
 pub returns : goal.returns

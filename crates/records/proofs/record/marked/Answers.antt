@@ -1,6 +1,5 @@
 -- `records::record::marked` meets its contract. Assumes nothing.
 use borrow.Author.Tests.{eq-eqb, ne_eqb}
-use borrow.Author.Rules.{rules}
 use Rattle.records.proofs.record.marked.Goals as goal
 
 pub returns-then-input-at-eq83 : goal.returns-then-input-at-eq83

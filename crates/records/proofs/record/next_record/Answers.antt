@@ -5,7 +5,6 @@ use mathlib.Core.Logic.{⊎_elim}
 use native.Mathlib.Omega.{arith}
 use lib.ListN.{length}
 use borrow.Author.Tests.{lt-ltb, le-ltb, le-leb, lt-leb, eq-eqb, ne_eqb}
-use borrow.Author.Rules.{rules}
 use Rattle.records.specs.Record.{next_at}
 use Rattle.records.specs.declared.record.Next.TheVariants.{Whole}
 use Rattle.records.specs.declared.record.Record.{Record}

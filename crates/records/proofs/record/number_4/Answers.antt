@@ -1,6 +1,5 @@
 -- `records::record::number_4` meets its contract: a number in two halves. Assumes nothing.
 use native.Mathlib.Omega.{arith}
-use borrow.Author.Rules.{rules}
 use Rattle.records.proofs.Laws.{number_at_4}
 use Rattle.records.proofs.record.number_4.Goals as goal
 

@@ -1,6 +1,5 @@
 -- `records::record::number_8` meets its contract: a number in two halves. Assumes nothing.
 use native.Mathlib.Omega.{arith}
-use borrow.Author.Rules.{rules}
 use Rattle.records.proofs.Laws.{number_at_8}
 use Rattle.records.proofs.record.number_8.Goals as goal
 

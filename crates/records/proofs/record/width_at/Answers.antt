@@ -1,5 +1,4 @@
 -- `records::record::width_at` meets its contract. Assumes nothing.
-use borrow.Author.Rules.{rules}
 use Rattle.records.proofs.record.width_at.Goals as goal
 
 pub returns-then-marked : goal.returns-then-marked

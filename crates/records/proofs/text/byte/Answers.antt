@@ -1,5 +1,4 @@
 -- `records::text::byte` meets its contract. Assumes nothing.
-use borrow.Author.Rules.{rules}
 use Rattle.records.proofs.Laws.{put_byte}
 use Rattle.records.proofs.text.byte.Goals as goal
 

@@ -1,6 +1,5 @@
 -- `records::text::digit` meets its contract. Assumes nothing.
 use borrow.Author.Tests.{lt-ltb, le-ltb}
-use borrow.Author.Rules.{rules}
 use Rattle.records.specs.Text.{digit}
 use Rattle.records.proofs.text.digit.Goals as goal
 

@@ -1,13 +1,9 @@
 -- `records::text::hexadecimal` meets its contract. The loop's invariant: with the digits that are left put in front, the buffer is what it is to become. Assumes nothing.
-use mathlib.Core.Path.{◌≡◌, refl, sym, ap, ◌∙◌}
-use mathlib.Core.List.{◌++◌, append-nil}
-use Prim.Native.Nat.{ℕ, suc, ◌+◌, ◌-◌, ◌/◌, ◌≤◌, ◌<◌}
-use native.Mathlib.Nat.{add-zero}
-use native.Mathlib.Omega.{arith}
-use lib.ListN.{length, take, drop, take-append-drop, length-set}
-use borrow.Author.Rules.{rules}
+use mathlib.Core.Path.{◌≡◌}
+use mathlib.Core.List.{◌++◌}
+use Prim.Native.Nat.{◌+◌, ◌≤◌}
+use lib.ListN.{length, take, drop}
 use Rattle.records.specs.Text.{hexadecimal}
-use Rattle.records.proofs.Laws.{put_before, hexadecimal_length}
 use Rattle.records.proofs.text.hexadecimal.Given as goal
 
 abbrev pub invariant-loop-i : goal.invariant-loop-i

@@ -1,5 +1,4 @@
 -- `expansion::sdmn::Recurrence::above` meets its contract. Assumes nothing.
-use borrow.Author.Rules.{rules}
 use Rattle.expansion.specs.Sdmn.{above}
 use Rattle.expansion.proofs.sdmn.Recurrence.above.Goals as goal
 

@@ -1,5 +1,4 @@
 -- `expansion::sdmn::Recurrence::below` meets its contract. Assumes nothing.
-use borrow.Author.Rules.{rules}
 use Rattle.expansion.specs.Sdmn.{below}
 use Rattle.expansion.proofs.sdmn.Recurrence.below.Goals as goal
 

@@ -1,5 +1,4 @@
 -- `expansion::sdmn::Recurrence::second` meets its contract. Assumes nothing.
-use borrow.Author.Rules.{rules}
 use Rattle.expansion.specs.Sdmn.{second}
 use native.Mathlib.Nat.{zero-add}
 use Rattle.expansion.proofs.sdmn.Recurrence.second.Goals as goal
