@@ -71,7 +71,7 @@ pub extern "C" fn routines_qstar(
     qt: &mut f64,
 )
     requires { (m < 200) × (m ≤ n) }
-    ensures { record { qs = qs.exit.now; qt = qt.new } ≡ Qstar.qstar ck.now m n c ck1 }
+    ensures { record { qs = qs.new; qt = qt.new } ≡ Qstar.qstar ck.now m n c ck1 }
 {
     let factors = joining::qstar::qstar(ck, m, n, c, ck1);
     *qs = factors.qs;

@@ -1,5 +1,4 @@
 -- `routines_c::routines_aswfa` meets its contract. Assumes nothing.
-use borrow.Author.Rules.{rules}
 use mathlib.Core.Path.{ap}
 use Rattle.angular.specs.declared.aswfa.Pair.{Pair}
 use Rattle.routines_c.proofs.routines_aswfa.Goals as goal

@@ -1,5 +1,4 @@
 -- `radial::gmn::ends` meets its contract. Assumes nothing.
-use borrow.Author.Rules.{rules}
 use borrow.Author.Tests.{le-leb, lt-leb}
 use Rattle.radial.specs.Gmn as Gmn
 use Rattle.radial.proofs.gmn.ends.Goals as goal

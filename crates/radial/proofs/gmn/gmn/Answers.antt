@@ -1,5 +1,4 @@
 -- `radial::gmn::gmn` meets its contract. Assumes nothing.
-use borrow.Author.Rules.{rules}
 use Rattle.radial.proofs.GmnLaws.{gmn_is}
 use Rattle.radial.proofs.gmn.gmn.Goals as goal
 

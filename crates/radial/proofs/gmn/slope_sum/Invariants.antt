@@ -1,12 +1,8 @@
 -- `radial::gmn::slope_sum` meets its contract. The invariant: what is left to add gives what the whole gives, and p is the power of x of the k-th term of the value. Assumes nothing.
-use borrow.Author.Rules.{rules}
-use Prim.Native.Nat.{suc, ◌-◌, ◌*◌, ◌≤◌}
-use mathlib.Core.Path.{◌≡◌, refl, sym, ◌∙◌}
-use native.Mathlib.Omega.{arith}
-use native.Mathlib.Numerals.{add-one}
+use Prim.Native.Nat.{◌-◌, ◌*◌, ◌≤◌}
+use mathlib.Core.Path.{◌≡◌}
 use Rattle.arith.specs.Powers.{power}
 use Rattle.radial.specs.Gmn.{sum_on, slope_term, slope_sum}
-use Rattle.radial.proofs.GmnLaws.{sum_stop, sum_on_lem, next_power}
 use Rattle.radial.proofs.gmn.slope_sum.Given as goal
 
 abbrev pub invariant-loop-k : goal.invariant-loop-k

@@ -1,5 +1,4 @@
 -- `radial::gmn::slope_term` meets its contract. Assumes nothing.
-use borrow.Author.Rules.{rules}
 use borrow.Author.Tests.{eq-eqb, ne_eqb}
 use Rattle.radial.specs.Gmn.{slope_term}
 use Rattle.radial.proofs.GmnLaws.{odd_power}

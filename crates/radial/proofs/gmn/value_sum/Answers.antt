@@ -1,11 +1,10 @@
 -- `radial::gmn::value_sum` meets its contract. The invariant: what is left to add gives what the whole gives, and p is the power of x of the k-th term. Assumes nothing.
-use borrow.Author.Rules.{rules}
-use Prim.Native.Nat.{suc, ◌-◌, ◌*◌, ◌≤◌}
+use Prim.Native.Nat.{suc, ◌-◌}
 use mathlib.Core.Path.{◌≡◌, refl, sym, ◌∙◌}
 use native.Mathlib.Omega.{arith}
 use native.Mathlib.Numerals.{add-one}
 use Rattle.arith.specs.Powers.{power}
-use Rattle.radial.specs.Gmn.{sum_on, value_term, value_sum}
+use Rattle.radial.specs.Gmn.{sum_on, value_term}
 use Rattle.radial.proofs.GmnLaws.{sum_stop, sum_on_lem, next_power}
 use Rattle.radial.proofs.gmn.value_sum.Goals as goal
 

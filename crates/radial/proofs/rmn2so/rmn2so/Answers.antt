@@ -1,5 +1,4 @@
 -- `radial::rmn2so::rmn2so` meets its contract. Assumes nothing.
-use borrow.Author.Rules.{rules}
 use Rattle.radial.proofs.Laws.{second_large, second_on_disc, second_off_disc}
 use Rattle.radial.proofs.rmn2so.rmn2so.Goals as goal
 

@@ -1,5 +1,4 @@
 -- `radial::rmn2so::turned` meets its contract. Assumes nothing.
-use borrow.Author.Rules.{rules}
 use Rattle.radial.specs.Rmn2so.{turned}
 use Rattle.radial.proofs.rmn2so.turned.Goals as goal
 

@@ -1,5 +1,4 @@
 -- `radial::rswfo::coefficients` meets its contract. Assumes nothing.
-use borrow.Author.Rules.{rules}
 use Rattle.radial.proofs.rswfo.coefficients.Goals as goal
 
 pub returns : goal.returns

@@ -1,7 +1,6 @@
 -- `radial::rswfo::first_kind` meets its contract. Assumes nothing.
 use mathlib.Core.Path.{◌∙◌}
 use Rattle.radial.specs.Rswfo.{first_kind}
-use borrow.Author.Rules.{rules}
 use Rattle.radial.proofs.rswfo.first_kind.Goals as goal
 
 pub returns : goal.returns

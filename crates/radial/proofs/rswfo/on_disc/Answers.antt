@@ -1,5 +1,4 @@
 -- `radial::rswfo::on_disc` meets its contract. Assumes nothing.
-use borrow.Author.Rules.{rules}
 use mathlib.Core.Path.{◌∙◌}
 use Rattle.radial.proofs.rswfo.on_disc.Goals as goal
 

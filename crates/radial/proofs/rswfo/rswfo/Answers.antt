@@ -1,5 +1,4 @@
 -- `radial::rswfo::rswfo` meets its contract. Assumes nothing.
-use borrow.Author.Rules.{rules}
 use mathlib.Core.Path.{◌∙◌}
 use Rattle.radial.specs.Rswfo as Rswfo
 use Rattle.radial.proofs.Laws.{both_on_disc, both_off_disc}

@@ -1,5 +1,4 @@
 -- `radial::rswfo::second_by_so` meets its contract. Assumes nothing.
-use borrow.Author.Rules.{rules}
 use mathlib.Core.Path.{◌∙◌}
 use Rattle.radial.proofs.rswfo.second_by_so.Goals as goal
 

@@ -1,5 +1,4 @@
 -- `radial::rswfo::second_kind` meets its contract. Assumes nothing.
-use borrow.Author.Rules.{rules}
 use mathlib.Core.Path.{◌∙◌}
 use Rattle.radial.proofs.Laws.{tried, not_tried}
 use Rattle.radial.proofs.rswfo.second_kind.Goals as goal
