@@ -7,7 +7,10 @@
 ghost use Rattle.std.specs.Prelude.{◌≡◌, ◌+◌, ◌<◌, ◌≤◌, length};
 ghost use Rattle.stream.specs.Inside.Calls.{longest};
 
-use libc::{STDIN_FILENO, STDOUT_FILENO};
+// The descriptors of standard input and output.
+const INPUT: i32 = 0;
+
+const OUTPUT: i32 = 1;
 
 // The least room in which a record is answered: where the program answers many records in a call,
 // this one needs a call for nearly each.
@@ -18,9 +21,9 @@ fn line_buffer() -> [u8; stream::LONGEST]
 }
 
 fn print_number(number: u64) {
-    io::write_all(STDOUT_FILENO, b"S ");
-    io::print_decimal(STDOUT_FILENO, number);
-    io::write_all(STDOUT_FILENO, b"\n");
+    io::write_all(OUTPUT, b"S ");
+    io::print_decimal(OUTPUT, number);
+    io::write_all(OUTPUT, b"\n");
 }
 
 fn answer_stream(input: &[u8], out: &mut [u8])
@@ -33,7 +36,7 @@ fn answer_stream(input: &[u8], out: &mut [u8])
     while arrived < input.len() {
         arrived = arrived + 1;
         let progress = stream::answer_some(&input[..arrived], at, index, out);
-        io::write_all(STDOUT_FILENO, &out[..progress.used]);
+        io::write_all(OUTPUT, &out[..progress.used]);
         if progress.refused {
             return;
         }
@@ -41,7 +44,7 @@ fn answer_stream(input: &[u8], out: &mut [u8])
         at = progress.at;
     }
     let used = stream::answer_end(input, at, index, out);
-    io::write_all(STDOUT_FILENO, &out[..used]);
+    io::write_all(OUTPUT, &out[..used]);
 }
 
 // Ends at a stream that is not whole.
@@ -66,6 +69,6 @@ fn answer_streams(input: &[u8], out: &mut [u8])
 fn main() {
     let mut input = io::large_buffer();
     let mut out = line_buffer();
-    let got = io::read_full(STDIN_FILENO, &mut input);
+    let got = io::read_full(INPUT, &mut input);
     answer_streams(&input[..got], &mut out);
 }

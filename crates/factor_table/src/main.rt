@@ -6,7 +6,8 @@ ghost use Rattle.std.specs.Prelude.{◌*◌, ◌≤◌, length};
 ghost use Rattle.records.specs.Text.{Put};
 ghost use Rattle.factor_table.specs.Printed.{bits_lines, printed};
 
-use libc::STDOUT_FILENO;
+// The descriptor of standard output.
+const OUTPUT: i32 = 1;
 
 // Puts a line for each number, from the buffer's start on, and answers where they end.
 fn put_lines(numbers: &[u64], out: &mut [u8]) -> usize
@@ -36,7 +37,7 @@ fn print_table(out: &mut [u8])
     requires { 27200 ≤ length out.old }
 {
     let used = put_table(out);
-    io::write_all(STDOUT_FILENO, &out[..used]);
+    io::write_all(OUTPUT, &out[..used]);
 }
 
 fn main() {

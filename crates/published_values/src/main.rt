@@ -6,9 +6,13 @@
 
 ghost use Rattle.std.specs.Prelude.{◌≤◌, length};
 
-use libc::{STDIN_FILENO, STDOUT_FILENO};
 use modes::{Answer, Kind, Mode, Operation};
 use records::{Next, Record};
+
+// The descriptors of standard input and output.
+const INPUT: i32 = 0;
+
+const OUTPUT: i32 = 1;
 
 // The place of degree n in a row of the mode, or 0 where there is none.
 fn place_of(mode: Mode) -> usize
@@ -96,13 +100,13 @@ fn answer_to(request: Record, which: u8) -> f64 {
 }
 
 fn print_result(number: u64, agrees: bool) {
-    io::write_all(STDOUT_FILENO, b"P ");
-    io::print_decimal(STDOUT_FILENO, number);
+    io::write_all(OUTPUT, b"P ");
+    io::print_decimal(OUTPUT, number);
     if agrees {
-        io::write_all(STDOUT_FILENO, b" agrees\n");
+        io::write_all(OUTPUT, b" agrees\n");
         return;
     }
-    io::write_all(STDOUT_FILENO, b" differs\n");
+    io::write_all(OUTPUT, b" differs\n");
 }
 
 // Ends where two whole records are not left.
@@ -127,6 +131,6 @@ fn compare_all(input: &[u8])
 
 fn main() {
     let mut input = io::large_buffer();
-    let got = io::read_full(STDIN_FILENO, &mut input);
+    let got = io::read_full(INPUT, &mut input);
     compare_all(&input[..got]);
 }

@@ -1,5 +1,5 @@
-// Reads a stream of records from one descriptor and writes its lines to another, as they arrive: what
-// a client has sent is answered before more is waited for. What the lines are is proved in `stream`;
+// Reads a stream of records from a reader and writes its lines to a writer, as they arrive: what a
+// client has sent is answered before more is waited for. What the lines are is proved in `stream`;
 // here is only the reading and writing. The two loops follow `stream/specs/Readings.antt`, whose
 // theorem says that all lines together are the stream's.
 #![tactic(auto)]
@@ -7,6 +7,8 @@
 ghost use Rattle.std.specs.Prelude.{◌≡◌, true, ◌+◌, ◌-◌, ◌<◌, ◌≤◌, length, take, drop};
 ghost use Rattle.stream.specs.Inside.Calls.{longest};
 ghost use Rattle.reading.specs.Loop.{Answers, Keeps, Goes, Ends};
+
+use std::io::{Read, Write};
 
 // How far the bytes that are there were answered.
 #[derive(Clone, Copy)]
@@ -39,7 +41,7 @@ pub struct Reading {
 }
 
 // Writes the lines of all whole records that are there.
-fn answer_arrived(to: i32, input: &[u8], first: u64, out: &mut [u8]) -> Arrived
+fn answer_arrived<W: Write>(to: &mut W, input: &[u8], first: u64, out: &mut [u8]) -> Arrived
     requires { (longest ≤ length out.old) × (length input.now < 4294967296) × (first < 9223372036854775808) }
     ensures out_len_unchanged { length out.new ≡ length out.old }
     ensures answers { Answers input.now (length out.old) first result }
@@ -49,7 +51,7 @@ fn answer_arrived(to: i32, input: &[u8], first: u64, out: &mut [u8]) -> Arrived
     loop {
         let progress = stream::answer_some(input, at, index, out);
         let used = progress.used;
-        let written = io::write_all(to, &out[..used]);
+        let written = to.write_all(&out[..used]).is_ok();
         index = progress.index;
         at = progress.at;
         if progress.refused {
@@ -80,24 +82,23 @@ fn answer_arrived(to: i32, input: &[u8], first: u64, out: &mut [u8]) -> Arrived
 }
 
 // Writes what is still to be said where the input has ended.
-fn answer_end(to: i32, input: &[u8], index: u64, out: &mut [u8]) -> bool
+fn answer_end<W: Write>(to: &mut W, input: &[u8], index: u64, out: &mut [u8]) -> bool
     requires { longest ≤ length out.old }
     ensures { length out.new ≡ length out.old }
 {
     let used = stream::answer_end(input, 0, index, out);
-    io::write_all(to, &out[..used])
+    to.write_all(&out[..used]).is_ok()
 }
 
 // Reads into the buffer behind the bytes that are held, and answers how many came. There is room for
 // one at least, so that 0 means that the input has ended or cannot be read.
-fn read_behind(from: i32, buffer: &mut [u8], held: usize) -> usize
+fn read_behind<R: Read>(from: &mut R, buffer: &mut [u8], held: usize) -> usize
     requires { held < length buffer.old }
     ensures result_in_bounds { held + result ≤ length buffer.old }
     ensures buffer_len_unchanged { (length buffer.new ≡ length buffer.old) × (take held buffer.new ≡ take held buffer.old) }
 {
     let rest = &mut buffer[held..];
-    let got = libc::read(from, rest);
-    io::count(got, rest)
+    from.read(rest).unwrap_or(0)
 }
 
 // The bytes from `at` to `end` go to the front.
@@ -114,7 +115,13 @@ fn keep(buffer: &mut [u8], at: usize, end: usize)
 
 // One reading: the whole records that are there now are answered, and the beginning of the next is
 // held.
-fn take_reading(from: i32, to: i32, buffer: &mut [u8], out: &mut [u8], before: Reading) -> Reading
+fn take_reading<R: Read, W: Write>(
+    from: &mut R,
+    to: &mut W,
+    buffer: &mut [u8],
+    out: &mut [u8],
+    before: Reading,
+) -> Reading
     requires in_bounds { (35 ≤ length buffer.old) × (length buffer.old < 4294967296) × (longest ≤ length out.old) × (before.bytes < 9223372036854775808) }
     requires keeps { Keeps (length out.old) buffer.old before }
     ensures buffer_len_unchanged { (length buffer.new ≡ length buffer.old) × (length out.new ≡ length out.old) }
@@ -153,7 +160,12 @@ fn take_reading(from: i32, to: i32, buffer: &mut [u8], out: &mut [u8], before: R
 // may have any length that holds a record. The contract rules out a loop that ends after some number
 // of readings or takes a short reading for the input's end, and one that loses a byte between two
 // readings or reads it twice. The bound of 2^63 bytes is never met.
-pub fn answer_all(from: i32, to: i32, buffer: &mut [u8], out: &mut [u8]) -> Reading
+pub fn answer_all<R: Read, W: Write>(
+    from: &mut R,
+    to: &mut W,
+    buffer: &mut [u8],
+    out: &mut [u8],
+) -> Reading
     requires { (35 ≤ length buffer.old) × (length buffer.old < 4294967296) × (longest ≤ length out.old) }
     ensures ends { Ends result }
     ensures keeps { Goes result → Keeps (length out.old) buffer.new result }

@@ -6,8 +6,6 @@
 ghost use Rattle.std.specs.Prelude.{◌≡◌, length};
 ghost use Rattle.stream.specs.Inside.Calls.{longest};
 
-use libc::{STDIN_FILENO, STDOUT_FILENO};
-
 fn record_buffer() -> [u8; records::LONGEST]
     ensures { 35 ≡ length result }
 {
@@ -20,8 +18,8 @@ fn line_buffer() -> [u8; stream::LONGEST]
     [0; stream::LONGEST]
 }
 
-fn main() {
+fn main(rt: HostRuntime) {
     let mut input = record_buffer();
     let mut out = line_buffer();
-    reading::answer_all(STDIN_FILENO, STDOUT_FILENO, &mut input, &mut out);
+    reading::answer_all(&mut rt.stdin(), &mut rt.stdout(), &mut input, &mut out);
 }

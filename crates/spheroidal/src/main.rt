@@ -2,20 +2,23 @@
 // them, each as soon as it has arrived. `reading` has the loop, and `stream` what the lines are.
 #![tactic(auto)]
 
-use libc::{STDERR_FILENO, STDIN_FILENO, STDOUT_FILENO};
+use std::env::{Env, FillError};
+
+// The descriptor of the error output.
+const ERRORS: i32 = 2;
 
 // Answers standard input to its end, or to where the stream is refused.
-fn answer_input() {
+fn answer_input(rt: &HostRuntime) {
     let mut input = io::large_buffer();
     let mut out = io::large_buffer();
-    reading::answer_all(STDIN_FILENO, STDOUT_FILENO, &mut input, &mut out);
+    reading::answer_all(&mut rt.stdin(), &mut rt.stdout(), &mut input, &mut out);
 }
 
 // The program has no arguments. Whoever gives it some expects another program, and would wait for it
 // in vain where standard input is a terminal.
 fn print_usage() {
     io::write_all(
-        STDERR_FILENO,
+        ERRORS,
         b"usage: spheroidal < records > lines\n\
         It takes no arguments. Standard input has records of 33 bytes: the mark 53 57 (hexadecimal), the\n\
         operation (one byte), m, n and the allowance (two bytes each), then c, cv and x as doubles, all\n\
@@ -25,10 +28,15 @@ fn print_usage() {
     );
 }
 
-fn main() {
-    if 1 < os::arg_count() {
+// Whether there is an argument after the program's name. It is not read, so its buffer has no room.
+fn has_argument(rt: &HostRuntime) -> bool {
+    !matches!(rt.arg(1, &mut []), Err(FillError::NotPresent))
+}
+
+fn main(rt: HostRuntime) {
+    if has_argument(&rt) {
         print_usage();
         return;
     }
-    answer_input();
+    answer_input(&rt);
 }

@@ -8,14 +8,8 @@ use native.Mathlib.Numerals.{add-one}
 use lib.ListN.{length, take, drop, set, get_or, length-set, length-drop}
 use lib.Seq.{length-take-le, take-suc, take-suc-set, get_or-drop, drop-set-lt, drop-drop, take-add, drop_at}
 use borrow.Author.Rules.{rules}
-use Rattle.reading.proofs.keep.Statement.{statement}
-use Rattle.reading.proofs.keep.Tie as tie
-
--- the first i bytes are moved, and the others are as they were
-record Moved (before : List ℕ) (at : ℕ) (now : List ℕ) (i : ℕ) : Type 0 where
-  same : length now ≡ length before
-  front : take i now ≡ take i (drop at before)
-  rest : drop i now ≡ drop i before
+use Rattle.reading.proofs.keep.Goals as goal
+use Rattle.reading.proofs.keep.Invariants.{Moved}
 
 -- one byte more
 one_more : {before : List ℕ} {at : ℕ} {now : List ℕ} {i : ℕ} → Moved before at now i → at + i < length before → Moved before at (set now i (get_or now (at + i) 0)) (i + 1)
@@ -36,60 +30,28 @@ part l at end p q =
     let e : at + (end - at) ≡ end = omega arith in
     sym (drop_at (take at l) (take (end - at) (drop at l)) at (length-take-le at l (omega arith))) ∙ ap (λ (m : List ℕ). drop at m) (sym (take-add at (end - at) l) ∙ ap (λ (k : ℕ). take k l) e)
 
-abbrev invariant-loop : tie.invariant-loop
-invariant-loop buffer₀ at end i₀ buffer i = (i ≤ end - at) × Moved buffer₀ at buffer i
+pub loop-i-init : goal.loop-i-init
+loop-i-init c = (omega arith, record { same = refl; front = refl; rest = refl })
 
-abbrev decreases-loop : tie.decreases-loop
-decreases-loop buffer₀ at end i₀ buffer i = end - i
+pub bounds-buffer-at : goal.bounds-buffer-at
+bounds-buffer-at c = omega (arith, c.loop-i.invariant.1.same)
 
-loop-holds : tie.Need-loop-init invariant-loop decreases-loop
-loop-holds c = (omega arith, record { same = refl; front = refl; rest = refl })
+pub bounds-buffer-i : goal.bounds-buffer-i
+bounds-buffer-i c = omega (arith, c.loop-i.invariant.1.same)
 
-sub-loop : tie.Need-overflow-sub-loop invariant-loop decreases-loop
-sub-loop c = search rules
+pub loop-i-smaller : goal.loop-i-smaller
+loop-i-smaller c = omega arith
 
-add-buffer : tie.Need-overflow-add-buffer invariant-loop decreases-loop
-add-buffer c = search rules
+pub loop-i-preserved : goal.loop-i-preserved
+loop-i-preserved c = (omega arith, one_more c.loop-i.invariant.1 (omega arith))
 
-slice-read-buffer : tie.Need-slice-read-buffer invariant-loop decreases-loop
-slice-read-buffer c = omega (arith, c.before.before.loop.invariant.1.same)
+pub shape_of-buffer : goal.shape_of-buffer
+shape_of-buffer c = c.loop-i.invariant.1.same
 
-slice-write-buffer : tie.Need-slice-write-buffer invariant-loop decreases-loop
-slice-write-buffer c = omega (arith, c.before.before.loop.invariant.1.same)
-
-add-i : tie.Need-overflow-add-i invariant-loop decreases-loop
-add-i c = search rules
-
-loop-less : tie.Need-loop-smaller invariant-loop decreases-loop
-loop-less c = omega arith
-
-loop-again : tie.Need-loop-preserved invariant-loop decreases-loop
-loop-again c = (omega arith, one_more c.before.before.loop.invariant.1 (omega arith))
-
-same_length : tie.Need-same-length invariant-loop decreases-loop
-same_length c = c.before.loop.invariant.1.same
-
-returns : tie.Need-returns invariant-loop decreases-loop
+pub returns : goal.returns
 returns c =
-    let l = c.before.loop in
+    let l = c.loop-i in
     let m = l.invariant.1 in
-    let s = c.before.before in
-    let e : s.args.end - s.args.at ≡ l.i = omega (arith, c.loop-test.false) in
+    let s = c.before in
+    let e : s.args.end - s.args.at ≡ l.i = omega (arith, c.loop-i-test.false) in
     (m.same, ap (λ (k : ℕ). take k l.buffer) e ∙ m.front ∙ ap (λ (k : ℕ). take k (drop s.args.at s.args.buffer.now)) (sym e) ∙ part s.args.buffer.now s.args.at s.args.end (omega arith) (omega arith))
-
-pub keep_spec : {M : Type 1} → statement M
-keep_spec =
-    tie.close
-    (tie.spec
-    invariant-loop
-    decreases-loop
-    loop-holds
-    sub-loop
-    add-buffer
-    slice-read-buffer
-    slice-write-buffer
-    add-i
-    loop-less
-    loop-again
-    same_length
-    returns)

@@ -1,0 +1,24 @@
+-- `damaged_streams::answer_stream` meets its contract: it reads and writes inside its buffers, and ends. Assumes nothing.
+use Prim.Native.Nat.{ℕ, ◌+◌, ◌-◌, ◌≤◌}
+use mathlib.Core.Path.{◌≡◌, refl, sym, ◌∙◌}
+use mathlib.Core.List.{List}
+use native.Mathlib.Omega.{arith}
+use lib.ListN.{length, take}
+use lib.Seq.{length-take-le}
+use borrow.Author.Rules.{rules}
+use Rattle.stream.specs.declared.stream.Progress.{Progress}
+use Rattle.stream.specs.Inside.Calls.{answered, progress}
+use Rattle.stream.proofs.Laws.{put_length}
+use Rattle.stream.proofs.StreamLaws.{moves}
+use Rattle.damaged_streams.proofs.answer_stream.Given as goal
+
+-- a call stays in what has arrived, and no record has fewer than a byte
+pub record Stays (at arrived index : ℕ) : Type 0 where
+  pub within : at ≤ arrived
+  pub counted : index ≤ at
+
+abbrev pub invariant-loop-arrived : goal.invariant-loop-arrived
+invariant-loop-arrived l = (length l.out ≡ length l.initial.out) × (l.arrived ≤ length l.input) × Stays l.at l.arrived l.index
+
+abbrev pub decreases-loop-arrived : goal.decreases-loop-arrived
+decreases-loop-arrived l = length l.input - l.arrived

@@ -1,0 +1,16 @@
+-- `reading::answer_arrived` meets its contract: the calls are those of the definition, and each comes further. Assumes nothing.
+use Prim.Native.Nat.{◌-◌}
+use mathlib.Core.Path.{◌≡◌, refl, sym, ◌∙◌}
+use native.Mathlib.Omega.{arith}
+use lib.ListN.{length}
+use lib.Seq.{length-take-le}
+use borrow.Author.Rules.{rules}
+use Rattle.stream.proofs.Laws.{put_length}
+use Rattle.reading.proofs.Calls as calls
+use Rattle.reading.proofs.answer_arrived.Given as goal
+
+abbrev pub invariant-loop-first : goal.invariant-loop-first
+invariant-loop-first g l = (length l.out ≡ length l.initial.out) × calls.Reached l.input (length l.initial.out) l.first l.at l.index
+
+abbrev pub decreases-loop-first : goal.decreases-loop-first
+decreases-loop-first g l = length l.input - l.at
