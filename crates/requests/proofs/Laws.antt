@@ -52,6 +52,10 @@ infinite_not_finite (inf s) a h e = rw e
 infinite_not_finite (fin s m d) a h e = rw e
 
 -- ---- a mode that is not refused
+pub in_range : (x : Mode) → x.m ≤ 199 → x.m ≤ x.n → x.n - x.m ≤ 199 → out_of_range x ≡ false
+unfolding out_of_range
+in_range x a b c = rw (le-ltb 199 x.m a, le-ltb x.n x.m b, le-ltb 199 (x.n - x.m) c)
+
 pub record Accepted (x : Mode) : Type 0 where
   pub order : x.m ≤ 199
   pub rising : x.m ≤ x.n
@@ -73,9 +77,9 @@ module _ (limit : Float) (x : Mode) (p : Bool) (r : out_of_range x ≡ false) (h
   unfolding refusal_of
   below_limit t = rw (r, ← hp, np, ← e, t)
 
-  pub at_limit_lem : lt h limit ≡ false → 6 ≡ refusal_of limit x
+  pub at_limit : lt h limit ≡ false → 6 ≡ refusal_of limit x
   unfolding refusal_of
-  at_limit_lem t = rw (r, ← hp, np, ← e, t)
+  at_limit t = rw (r, ← hp, np, ← e, t)
 
 passes : (limit : Float) (x : Mode) → refusal_of limit x ≡ 0 → (out_of_range x ≡ false) × (no_parameter x.c ≡ false) × (lt (h_of (x.n - x.m) x.c) limit ≡ true)
 unfolding refusal_of

@@ -47,8 +47,8 @@ fn row_in(
     uppers: &mut [f64],
     substituted: &mut [u8],
 ) -> u8
-    requires mode_value { row_refusal mode ≡ 0 }
-    requires m_in_bounds { (mode.n - mode.m < length values.old) × (mode.n - mode.m < length steps.old) × (mode.n - mode.m < length lowers.old) × (mode.n - mode.m < length uppers.old) × (mode.n - mode.m < length substituted.old) }
+    requires not_refused { row_refusal mode ≡ 0 }
+    requires room { (mode.n - mode.m < length values.old) × (mode.n - mode.m < length steps.old) × (mode.n - mode.m < length lowers.old) × (mode.n - mode.m < length uppers.old) × (mode.n - mode.m < length substituted.old) }
     ensures { answer result (slices values.new steps.new lowers.new uppers.new substituted.new)
         ≡ row_in kind mode allowance (slices values.old steps.old lowers.old uppers.old substituted.old) }
 {

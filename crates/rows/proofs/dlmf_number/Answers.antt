@@ -7,7 +7,6 @@ use Rattle.arith.specs.Double.{#0}
 use Rattle.expansion.specs.Sums as Sums
 use Rattle.requests.proofs.Laws.{accepted}
 use Rattle.rows.proofs.Laws as laws
-use borrow.Author.Rules.{rules}
 use Rattle.rows.proofs.dlmf_number.Goals as goal
 
 pub returns-then-refused-ne0 : goal.returns-then-refused-ne0
@@ -29,7 +28,7 @@ row_in-number-requires c =
     let w = ap length c.blank-lowers.ensures ∙ length-replicate 200 #0 in
     let u = ap length c.blank-uppers.ensures ∙ length-replicate 200 #0 in
     let f = ap length c.zero_flags-substituted.ensures ∙ length-replicate {A = ℕ} 200 0 in
-    record { mode_value = e; m_in_bounds = (omega arith, omega arith, omega arith, omega arith, omega arith) }
+    record { not_refused = e; room = (omega arith, omega arith, omega arith, omega arith, omega arith) }
 
 pub returns-then-number-ne0 : goal.returns-then-number-ne0
 unfolding Sums.blank

@@ -1,7 +1,6 @@
 -- `rows::dlmf_row` meets its contract: the answer has the number that `dlmf_number` gives. Assumes nothing.
 use mathlib.Core.Path.{ap}
 use Rattle.requests.specs.Answers.{outcome}
-use borrow.Author.Rules.{rules}
 use Rattle.rows.proofs.dlmf_row.Goals as goal
 
 pub returns : goal.returns

@@ -1,11 +1,9 @@
 -- `rows::lessen` meets its contract. The invariant: the first j places are written. Assumes nothing.
-use Prim.Native.Nat.{◌≤◌, ◌-◌}
 use mathlib.Core.Path.{◌≡◌, refl}
 use native.Mathlib.Omega.{arith}
 use native.Mathlib.Numerals.{add-one}
-use lib.ListN.{length, length-set}
+use lib.ListN.{length-set}
 use Rattle.rows.specs.Rows.{lessened}
-use borrow.Author.Rules.{rules}
 use Rattle.rows.proofs.lessen.Goals as goal
 
 pub loop-j-init : goal.loop-j-init

@@ -1,11 +1,8 @@
 -- `rows::lessen` meets its contract. The invariant: the first j places are written. Assumes nothing.
 use Prim.Native.Nat.{◌≤◌, ◌-◌}
-use mathlib.Core.Path.{◌≡◌, refl}
-use native.Mathlib.Omega.{arith}
-use native.Mathlib.Numerals.{add-one}
-use lib.ListN.{length, length-set}
+use mathlib.Core.Path.{◌≡◌}
+use lib.ListN.{length}
 use Rattle.rows.specs.Rows.{lessened}
-use borrow.Author.Rules.{rules}
 use Rattle.rows.proofs.lessen.Given as goal
 
 abbrev pub invariant-loop-j : goal.invariant-loop-j

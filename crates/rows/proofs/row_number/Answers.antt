@@ -5,7 +5,6 @@ use borrow.Author.Tests.{le-leb, lt-leb}
 use Rattle.rows.specs.Rows.{too_short}
 use Rattle.requests.proofs.Laws.{accepted}
 use Rattle.rows.proofs.Laws as laws
-use borrow.Author.Rules.{rules}
 use Rattle.rows.proofs.row_number.Goals as goal
 
 pub returns-then-refused-ne0 : goal.returns-then-refused-ne0
@@ -35,7 +34,7 @@ unfolding too_short
 returns-then-substituted-last c = laws.short _ _ _ _ _ c.row_refusal-refused.ensures c.if-refused-ne0.false (rw (lt-leb _ _ c.if-values-last.false, lt-leb _ _ c.if-steps-last.false, lt-leb _ _ c.if-lowers-last.false, lt-leb _ _ c.if-uppers-last.false, le-leb _ _ c.if-substituted-last.true))
 
 pub row_in-requires : goal.row_in-requires
-row_in-requires c = record { mode_value = sym c.row_refusal-refused.ensures ∙ c.if-refused-ne0.false; m_in_bounds = (c.if-values-last.false, c.if-steps-last.false, c.if-lowers-last.false, c.if-uppers-last.false, c.if-substituted-last.false) }
+row_in-requires c = record { not_refused = sym c.row_refusal-refused.ensures ∙ c.if-refused-ne0.false; room = (c.if-values-last.false, c.if-steps-last.false, c.if-lowers-last.false, c.if-uppers-last.false, c.if-substituted-last.false) }
 
 pub returns : goal.returns
-returns c = laws.late _ _ _ _ _ c.row_refusal-refused.ensures _ c.if-refused-ne0.false (laws.long-enough _ _ c.if-values-last.false c.if-steps-last.false c.if-lowers-last.false c.if-uppers-last.false c.if-substituted-last.false) c.row_in.ensures
+returns c = laws.late _ _ _ _ _ c.row_refusal-refused.ensures _ c.if-refused-ne0.false (laws.long_enough _ _ c.if-values-last.false c.if-steps-last.false c.if-lowers-last.false c.if-uppers-last.false c.if-substituted-last.false) c.row_in.ensures

@@ -1,12 +1,9 @@
 -- `rows::zero_row` meets its contract. The invariant: the first j places of each slice are written. Assumes nothing.
 use Prim.Native.Nat.{◌≤◌, ◌-◌}
-use mathlib.Core.Path.{◌≡◌, refl, ap}
-use native.Mathlib.Omega.{arith}
-use native.Mathlib.Numerals.{add-one}
-use lib.ListN.{length, length-set}
-use Rattle.segv.specs.Row.{slices, written, written_row}
+use mathlib.Core.Path.{◌≡◌}
+use lib.ListN.{length}
+use Rattle.segv.specs.Row.{slices, written_row}
 use Rattle.rows.specs.Rows.{zero_at}
-use borrow.Author.Rules.{rules}
 use Rattle.rows.proofs.zero_row.Given as goal
 
 abbrev pub invariant-loop-j : goal.invariant-loop-j

@@ -1,5 +1,4 @@
 -- `modes::expansions::coefficients` meets its contract: the answer has the number that `coefficients_number` gives. Assumes nothing.
-use borrow.Author.Rules.{rules}
 use mathlib.Core.Path.{ap}
 use Rattle.requests.specs.Answers.{outcome}
 use Rattle.modes.proofs.expansions.coefficients.Goals as goal

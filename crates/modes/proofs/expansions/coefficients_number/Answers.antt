@@ -1,5 +1,4 @@
 -- `modes::expansions::coefficients_number` meets its contract. Each return is one case of the definition. Assumes nothing.
-use borrow.Author.Rules.{rules}
 use mathlib.Core.Path.{sym, ap, ◌∙◌}
 use Rattle.requests.proofs.Laws.{usable}
 use Rattle.modes.proofs.Laws as laws
@@ -11,10 +10,10 @@ pub returns-then-refused-ne0 : goal.returns-then-refused-ne0
 returns-then-refused-ne0 c = laws.coefficients_early _ _ _ _ _ c.mode_refusal-refused.ensures c.if-refused-ne0.true
 
 pub returns-then-not_finite : goal.returns-then-not_finite
-returns-then-not_finite c = laws.coefficients_value _ _ _ _ _ c.mode_refusal-refused.ensures c.if-refused-ne0.false (sym c.not-Finite.ensures ∙ c.if-not_finite.true)
+returns-then-not_finite c = laws.coefficients_value _ _ _ _ _ c.mode_refusal-refused.ensures c.if-refused-ne0.false (sym c.not_finite.ensures ∙ c.if-not_finite.true)
 
 pub returns-then-out-lt200 : goal.returns-then-out-lt200
-returns-then-out-lt200 c = laws.coefficients_short _ _ _ _ _ c.mode_refusal-refused.ensures c.if-refused-ne0.false (sym c.not-Finite.ensures ∙ c.if-not_finite.false) c.if-out-lt200.true
+returns-then-out-lt200 c = laws.coefficients_short _ _ _ _ _ c.mode_refusal-refused.ensures c.if-refused-ne0.false (sym c.not_finite.ensures ∙ c.if-not_finite.false) c.if-out-lt200.true
 
 pub sdmn-df-requires : goal.sdmn-df-requires
 sdmn-df-requires c = usable c.args.mode (sym c.mode_refusal-refused.ensures ∙ c.if-refused-ne0.false)
@@ -23,4 +22,4 @@ pub copy-requires : goal.copy-requires
 copy-requires c = (ap length c.sdmn-df.ensures ∙ sdmn_length _ _ _ _ _, c.if-out-lt200.false)
 
 pub returns : goal.returns
-returns c = laws.coefficients_done _ _ _ _ _ c.mode_refusal-refused.ensures c.if-refused-ne0.false (sym c.not-Finite.ensures ∙ c.if-not_finite.false) _ _ _ c.if-out-lt200.false c.sign-kd.ensures c.sdmn-df.ensures c.copy.ensures
+returns c = laws.coefficients_done _ _ _ _ _ c.mode_refusal-refused.ensures c.if-refused-ne0.false (sym c.not_finite.ensures ∙ c.if-not_finite.false) _ _ _ c.if-out-lt200.false c.sign-kd.ensures c.sdmn-df.ensures c.copy.ensures

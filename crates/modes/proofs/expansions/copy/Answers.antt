@@ -1,10 +1,8 @@
 -- `modes::expansions::copy` meets its contract. The invariant: the first j places are copied, and those from j on are as they were. Assumes nothing.
-use borrow.Author.Rules.{rules}
-use Prim.Native.Nat.{◌-◌, ◌≤◌}
-use mathlib.Core.Path.{◌≡◌, refl}
+use mathlib.Core.Path.{refl}
 use native.Mathlib.Omega.{arith}
 use native.Mathlib.Numerals.{add-one}
-use lib.ListN.{length, take, drop, length-set}
+use lib.ListN.{length-set}
 use Rattle.modes.proofs.Laws.{copied, all_copied}
 use Rattle.modes.proofs.expansions.copy.Goals as goal
 

@@ -1,11 +1,7 @@
 -- `modes::expansions::copy` meets its contract. The invariant: the first j places are copied, and those from j on are as they were. Assumes nothing.
-use borrow.Author.Rules.{rules}
 use Prim.Native.Nat.{◌-◌, ◌≤◌}
-use mathlib.Core.Path.{◌≡◌, refl}
-use native.Mathlib.Omega.{arith}
-use native.Mathlib.Numerals.{add-one}
-use lib.ListN.{length, take, drop, length-set}
-use Rattle.modes.proofs.Laws.{copied, all_copied}
+use mathlib.Core.Path.{◌≡◌}
+use lib.ListN.{length, take, drop}
 use Rattle.modes.proofs.expansions.copy.Given as goal
 
 abbrev pub invariant-loop-j : goal.invariant-loop-j

@@ -1,5 +1,4 @@
 -- `modes::radial_functions::radial_refusal` meets its contract. Each return is one case of the definition. Assumes nothing.
-use borrow.Author.Rules.{rules}
 use mathlib.Core.Path.{sym, ◌∙◌}
 use Rattle.requests.proofs.Laws.{common_usable}
 use Rattle.modes.proofs.Laws as laws

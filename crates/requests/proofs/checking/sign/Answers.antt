@@ -1,12 +1,11 @@
 -- `requests::checking::sign` meets its contract. Assumes nothing.
 use Rattle.requests.specs.Refusals.{sign_of}
-use borrow.Author.Rules.{rules}
 use Rattle.requests.proofs.checking.sign.Goals as goal
 
 pub returns-in-Prolate : goal.returns-in-Prolate
 unfolding sign_of
-returns-in-Prolate c = rw c.enum_told-1.given.1
+returns-in-Prolate c = rw c.in-Prolate.is
 
 pub returns-in-Oblate : goal.returns-in-Oblate
 unfolding sign_of
-returns-in-Oblate c = rw c.enum_told-in-Oblate-1.given.1
+returns-in-Oblate c = rw c.in-Oblate.is

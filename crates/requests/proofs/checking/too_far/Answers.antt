@@ -1,5 +1,4 @@
 -- `requests::checking::too_far` meets its contract. Each return is one case of the definition. Assumes nothing.
-use borrow.Author.Rules.{rules}
 use Rattle.requests.proofs.Laws as laws
 use Rattle.requests.proofs.checking.too_far.Goals as goal
 

@@ -1,5 +1,4 @@
 -- `requests::checking::Mode::cs` meets its contract. Assumes nothing.
-use borrow.Author.Rules.{rules}
 use Rattle.requests.proofs.checking.Mode.cs.Goals as goal
 
 pub returns : goal.returns

@@ -2,7 +2,6 @@
 use mathlib.Core.Path.{sym, ◌∙◌}
 use Rattle.requests.proofs.Laws as laws
 use Rattle.requests.specs.Refusals.{refusal_of}
-use borrow.Author.Rules.{rules}
 use Rattle.requests.proofs.checking.Mode.refusal.Goals as goal
 
 pub returns-then-out_of_range : goal.returns-then-out_of_range
@@ -20,4 +19,4 @@ pub returns-then-h-limit : goal.returns-then-h-limit
 returns-then-h-limit c = laws.below_limit _ _ _ (sym c.out_of_range.ensures ∙ c.if-out_of_range.false) c.no_parameter.ensures c.if-no_parameter.false _ c.h.ensures c.if-h-limit.true
 
 pub returns : goal.returns
-returns c = laws.at_limit_lem _ _ _ (sym c.out_of_range.ensures ∙ c.if-out_of_range.false) c.no_parameter.ensures c.if-no_parameter.false _ c.h.ensures c.if-h-limit.false
+returns c = laws.at_limit _ _ _ (sym c.out_of_range.ensures ∙ c.if-out_of_range.false) c.no_parameter.ensures c.if-no_parameter.false _ c.h.ensures c.if-h-limit.false

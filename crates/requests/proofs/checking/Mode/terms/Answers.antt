@@ -1,5 +1,4 @@
 -- `requests::checking::Mode::terms` meets its contract. Assumes nothing.
-use borrow.Author.Rules.{rules}
 use Rattle.requests.proofs.Laws as laws
 use Rattle.requests.proofs.checking.Mode.terms.Goals as goal
 

@@ -1,5 +1,4 @@
 -- `requests::checking::Mode::too_many_terms` meets its contract. Assumes nothing.
-use borrow.Author.Rules.{rules}
 use Rattle.requests.specs.Refusals.{too_many_terms}
 use Rattle.requests.proofs.checking.Mode.too_many_terms.Goals as goal
 
