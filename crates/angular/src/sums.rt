@@ -4,6 +4,7 @@ ghost use Rattle.angular.specs.Aswfa as Aswfa;
 ghost use Rattle.angular.specs.Inside.Stages.{Final};
 
 // The stopping test of a sum after its term r for k: k is at least 10 and r below 1e-14 of the sum su.
+#[tactic(auto, unfolding(crate::specs::Aswfa::negligible))]
 fn negligible(k: u32, r: f64, su: f64) -> bool
     ensures { result ≡ Aswfa.negligible k r su }
 {
