@@ -19,7 +19,6 @@ use Rattle.expansion.specs.Terms.{h_of, #175}
 use Rattle.requests.proofs.Laws.{accepted, usable}
 use Rattle.rows.specs.Rows.{row_of, row_in, too_short, blank_slices}
 use Rattle.rows.proofs.Filled.{written_at, blank_room}
-use Rattle.sheets.specs.declared.parameters.Rows.{Rows}
 use Rattle.sheets.specs.Sheet.{mode_with, first_refusal, row_for, row_refusal_for, cv_for}
 use Rattle.sheets.specs.Inside.Parameters.{Bisected, RowsFrom, Put}
 use Rattle.sheets.proofs.Laws.{first_later, first_stop}

@@ -119,7 +119,7 @@ fn four_cs(kind: Kind, m: u16, n: u16, cs: &[f64], i: usize) -> [f64; 4]
 // How many entries their matrices have.
 fn four_entries(m: u16, n: u16, cs: &[f64], i: usize) -> [u32; 4]
     requires i_in_bounds { (i + 4 ≤ length cs.now) × (length cs.now ≤ 32) }
-    requires by_index { (q : ℕ) → q < 4 → Bisected m n (at cs.now (i + q)) }
+    requires bisected { (q : ℕ) → q < 4 → Bisected m n (at cs.now (i + q)) }
     ensures { (q : ℕ) → q < 4 → get_or result q 0 ≡ entries_of (Sheet.mode_with m n (at cs.now (i + q))) }
 {
     let mut out: [u32; 4] = [0; 4];
@@ -135,7 +135,7 @@ fn four_entries(m: u16, n: u16, cs: &[f64], i: usize) -> [u32; 4]
 // Of the four c from index i on, side by side.
 fn four_rows(kind: Kind, m: u16, n: u16, allowance: u32, cs: &[f64], i: usize) -> Rows
     requires i_in_bounds { (i + 4 ≤ length cs.now) × (length cs.now ≤ 32) }
-    requires by_index { (q : ℕ) → q < 4 → Bisected m n (at cs.now (i + q)) }
+    requires bisected { (q : ℕ) → q < 4 → Bisected m n (at cs.now (i + q)) }
     ensures { RowsFrom kind m n allowance cs.now i result }
 {
     let squares = four_cs(kind, m, n, cs, i);
@@ -201,7 +201,7 @@ pub(crate) fn characteristic_values(
 ) -> u8
     requires { (out_of_range (Sheet.mode_with m n #0) ≡ false) × (length cs.now ≤ 32) × (length cvs.old ≡ 32) }
     ensures value { result ≡ Sheet.first_refusal (Sheet.row_refusal_for kind m n allowance) cs.now }
-    ensures i_after { result ≡ 0 → (i : ℕ) → i < length cs.now → at cvs.new i ≡ Sheet.cv_for kind m n allowance (at cs.now i) }
+    ensures values { result ≡ 0 → (i : ℕ) → i < length cs.now → at cvs.new i ≡ Sheet.cv_for kind m n allowance (at cs.now i) }
 {
     let mut i: usize = 0;
     while i < cs.len() {

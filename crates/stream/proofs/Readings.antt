@@ -55,7 +55,7 @@ module _ (bytes rest : List ℕ) (room : ℕ) where
   all_further : (a : Answered) → a.refused ≡ false → all (further bytes room a) ≡ all a
   all_further a f =
       let b = answered bytes room a.at a.index in
-      append_assoc a.text b.text (lines_after (bytes ++ rest) b) ∙ ap (λ (l : List ℕ). a.text ++ l) (laws.parts-joined bytes rest room a.at a.index) ∙ rw f
+      append_assoc a.text b.text (lines_after (bytes ++ rest) b) ∙ ap (λ (l : List ℕ). a.text ++ l) (laws.parts_joined bytes rest room a.at a.index) ∙ rw f
 
   all_same : (most : ℕ) (a : Answered) → a.refused ≡ false → all (calls_in most bytes room a) ≡ all a
   unfolding calls_in
@@ -119,7 +119,7 @@ through_held bytes at h t =
 
 pub read_from : (readings : List (List ℕ)) (room : ℕ) → longest ≤ room → (h : Held) → Through h.bytes 0 → printed readings room h ≡ lines_from (h.bytes ++ joined readings) 0 h.index
 unfolding printed joined
-read_from [] room roomy h t = sym (laws.through-lines h.bytes 0 h.index t) ∙ ap (λ (l : List ℕ). lines_from l 0 h.index) (sym (append-nil h.bytes))
+read_from [] room roomy h t = sym (laws.through_lines h.bytes 0 h.index t) ∙ ap (λ (l : List ℕ). lines_from l 0 h.index) (sym (append-nil h.bytes))
 read_from (reading ∷ readings) room roomy h t = go a.refused refl (λ w. read_from readings room roomy (holds room h reading) (through_held bytes a.at done.within w))
   where
     bytes : List ℕ
@@ -141,7 +141,7 @@ read_from (reading ∷ readings) room roomy h t = go a.refused refl (λ w. read_
     go true f later = rw f (rw f at same)
     go false f later =
         let w = ⊎_elim (λ y. absurd (true≢false (sym y ∙ f))) (λ y. y) done.over in
-        rw (f, later w, ← laws.next-part bytes (joined readings) a.at a.index done.within) (rw f at same)
+        rw (f, later w, ← laws.next_part bytes (joined readings) a.at a.index done.within) (rw f at same)
 
 pub read_in_parts : ReadInParts
 unfolding joined

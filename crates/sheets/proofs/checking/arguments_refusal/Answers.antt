@@ -1,11 +1,8 @@
 -- `sheets::checking::arguments_refusal` meets its contract. The invariant: no argument before the i-th is refused. Assumes nothing.
-use Prim.Native.Nat.{◌-◌, ◌≤◌}
 use mathlib.Core.Path.{◌≡◌, refl, sym, ◌∙◌}
 use native.Mathlib.Omega.{arith}
-use lib.ListN.{length, drop}
-use Rattle.sheets.specs.Sheet.{first_refusal, argument_refusal}
+use Rattle.sheets.specs.Sheet.{argument_refusal}
 use Rattle.sheets.proofs.Laws as laws
-use borrow.Author.Rules.{rules}
 use Rattle.sheets.proofs.checking.arguments_refusal.Goals as goal
 
 pub loop-i-init : goal.loop-i-init

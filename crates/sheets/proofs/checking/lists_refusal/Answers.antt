@@ -3,7 +3,6 @@ use mathlib.Core.Path.{sym, ap, ◌∙◌}
 use mathlib.Core.Bool.{Bool, cond}
 use Prim.Native.Nat.{ℕ}
 use Rattle.sheets.proofs.Laws as laws
-use borrow.Author.Rules.{rules}
 use Rattle.sheets.proofs.checking.lists_refusal.Goals as goal
 
 abbrev size : Bool → ℕ

@@ -1,13 +1,7 @@
 -- `sheets::checking::parameters_refusal` meets its contract. The invariant: no parameter before the i-th is refused. Assumes nothing.
-use Prim.Native.Nat.{ℕ, ◌-◌, ◌≤◌}
-use mathlib.Core.Path.{◌≡◌, refl, sym, ◌∙◌}
+use mathlib.Core.Path.{refl, sym, ◌∙◌}
 use native.Mathlib.Omega.{arith}
-use lib.Ieee.{Float}
-use lib.ListN.{length, drop}
-use Rattle.requests.specs.Refusals.{mode_refusal}
-use Rattle.sheets.specs.Sheet.{mode_with, first_refusal}
 use Rattle.sheets.proofs.Laws as laws
-use borrow.Author.Rules.{rules}
 use Rattle.sheets.proofs.checking.parameters_refusal.Goals as goal
 use Rattle.sheets.proofs.checking.parameters_refusal.Invariants.{refusal}
 

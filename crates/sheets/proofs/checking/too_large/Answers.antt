@@ -14,10 +14,10 @@ unfolding too_large
 returns-then-arguments-gt-ARGUMENTS c = rw (le-ltb _ _ c.if-parameters-gt-PARAMETERS.false, lt-ltb _ _ c.if-arguments-gt-ARGUMENTS.true)
 
 pub overflow_mul-result : goal.overflow_mul-result
-overflow_mul-result c = let h = laws.few-pairs _ _ c.if-parameters-gt-PARAMETERS.false c.if-arguments-gt-ARGUMENTS.false in omega arith
+overflow_mul-result c = let h = laws.few_pairs _ _ c.if-parameters-gt-PARAMETERS.false c.if-arguments-gt-ARGUMENTS.false in omega arith
 
 pub overflow_mul-result-2 : goal.overflow_mul-result-2
-overflow_mul-result-2 c = let h = laws.few-pairs _ _ c.if-parameters-gt-PARAMETERS.false c.if-arguments-gt-ARGUMENTS.false in omega arith
+overflow_mul-result-2 c = let h = laws.few_pairs _ _ c.if-parameters-gt-PARAMETERS.false c.if-arguments-gt-ARGUMENTS.false in omega arith
 
 pub returns : goal.returns
 unfolding too_large

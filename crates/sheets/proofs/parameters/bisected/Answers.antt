@@ -1,7 +1,6 @@
 -- `sheets::parameters::bisected` meets its contract. Assumes nothing.
 use mathlib.Core.Path.{sym, ◌∙◌}
 use Rattle.arith.proofs.Flags.{not_taken}
-use borrow.Author.Rules.{rules}
 use Rattle.sheets.proofs.parameters.bisected.Goals as goal
 
 pub returns-then-mode_refusal-ne0 : goal.returns-then-mode_refusal-ne0

@@ -1,13 +1,9 @@
 -- `sheets::parameters::characteristic_values` meets its contract. The invariant: no row before the i-th is refused, and their values are in place. Assumes nothing.
-use Prim.Native.Nat.{ℕ, ◌-◌, ◌≤◌, ◌<◌}
-use mathlib.Core.Path.{◌≡◌, refl, sym, ◌∙◌}
+use mathlib.Core.Path.{refl, sym, ◌∙◌}
 use native.Mathlib.Omega.{arith}
-use lib.ListN.{length, drop}
-use Rattle.arith.specs.Double.{at}
-use Rattle.sheets.specs.Sheet.{first_refusal, row_refusal_for, cv_for}
+use Rattle.sheets.specs.Sheet.{row_refusal_for, cv_for}
 use Rattle.sheets.proofs.Laws as laws
 use Rattle.sheets.proofs.Rows.{later_some, values_put}
-use borrow.Author.Rules.{rules}
 use Rattle.sheets.proofs.parameters.characteristic_values.Goals as goal
 
 pub loop-i-init : goal.loop-i-init
@@ -17,7 +13,7 @@ pub returns-then-found-ne0 : goal.returns-then-found-ne0
 returns-then-found-ne0 c =
     let l = c.loop-i in
     let r = c.rows_from-found.ensures in
-    record { value = r.refused c.if-found-ne0.true ∙ sym l.invariant.1; i_after = λ z. absurd (c.if-found-ne0.true z) }
+    record { value = r.refused c.if-found-ne0.true ∙ sym l.invariant.1; values = λ z. absurd (c.if-found-ne0.true z) }
 
 pub put-requires : goal.put-requires
 put-requires c =
@@ -48,4 +44,4 @@ pub returns : goal.returns
 returns c =
     let a = c.args in
     let l = c.loop-i in
-    record { value = laws.first_end (row_refusal_for a.kind a.m a.n a.allowance) _ l.i (omega arith) ∙ sym l.invariant.1; i_after = λ z i h. l.invariant.3 i (omega arith) }
+    record { value = laws.first_end (row_refusal_for a.kind a.m a.n a.allowance) _ l.i (omega arith) ∙ sym l.invariant.1; values = λ z i h. l.invariant.3 i (omega arith) }

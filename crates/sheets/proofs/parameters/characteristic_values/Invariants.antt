@@ -1,13 +1,9 @@
 -- `sheets::parameters::characteristic_values` meets its contract. The invariant: no row before the i-th is refused, and their values are in place. Assumes nothing.
 use Prim.Native.Nat.{ℕ, ◌-◌, ◌≤◌, ◌<◌}
-use mathlib.Core.Path.{◌≡◌, refl, sym, ◌∙◌}
-use native.Mathlib.Omega.{arith}
+use mathlib.Core.Path.{◌≡◌}
 use lib.ListN.{length, drop}
 use Rattle.arith.specs.Double.{at}
 use Rattle.sheets.specs.Sheet.{first_refusal, row_refusal_for, cv_for}
-use Rattle.sheets.proofs.Laws as laws
-use Rattle.sheets.proofs.Rows.{later_some, values_put}
-use borrow.Author.Rules.{rules}
 use Rattle.sheets.proofs.parameters.characteristic_values.Given as goal
 
 abbrev pub invariant-loop-i : goal.invariant-loop-i

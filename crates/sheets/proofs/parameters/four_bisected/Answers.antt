@@ -1,13 +1,10 @@
 -- `sheets::parameters::four_bisected` meets its contract. The invariant: the first q rows are bisected. Assumes nothing.
-use Prim.Native.Nat.{ℕ, ◌+◌, ◌-◌, ◌≤◌, ◌<◌}
+use Prim.Native.Nat.{ℕ, ◌+◌}
 use native.Mathlib.Omega.{arith}
-use borrow.Author.Tests.{not-false}
-use lib.ListN.{length}
 use Rattle.arith.specs.Double.{at}
 use Rattle.arith.proofs.Flags.{not_taken}
 use Rattle.lanes.proofs.Laws.{one_more}
 use Rattle.sheets.specs.Inside.Parameters.{Bisected}
-use borrow.Author.Rules.{rules}
 use Rattle.sheets.proofs.parameters.four_bisected.Goals as goal
 
 pub returns-then-cs-lt4 : goal.returns-then-cs-lt4
@@ -26,7 +23,7 @@ pub loop-q-preserved : goal.loop-q-preserved
 loop-q-preserved c =
     let l = c.loop-q in
     let a = c.args in
-    (omega arith, l.invariant.1, one_more (λ (k : ℕ). Bisected a.m a.n (at a.cs.now (a.i + k))) l.q l.invariant.2 (c.bisected.ensures (not-false _ c.if-not-bisected.false)))
+    (omega arith, l.invariant.1, one_more (λ (k : ℕ). Bisected a.m a.n (at a.cs.now (a.i + k))) l.q l.invariant.2 (c.bisected.ensures c.if-not-bisected.false))
 
 pub returns : goal.returns
 returns c = let l = c.loop-q in record { i_in_bounds = λ h. l.invariant.1; bisected = λ h q less. l.invariant.2 q (omega arith) }

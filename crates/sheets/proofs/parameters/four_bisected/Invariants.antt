@@ -1,13 +1,8 @@
 -- `sheets::parameters::four_bisected` meets its contract. The invariant: the first q rows are bisected. Assumes nothing.
 use Prim.Native.Nat.{ℕ, ◌+◌, ◌-◌, ◌≤◌, ◌<◌}
-use native.Mathlib.Omega.{arith}
-use borrow.Author.Tests.{not-false}
 use lib.ListN.{length}
 use Rattle.arith.specs.Double.{at}
-use Rattle.arith.proofs.Flags.{not_taken}
-use Rattle.lanes.proofs.Laws.{one_more}
 use Rattle.sheets.specs.Inside.Parameters.{Bisected}
-use borrow.Author.Rules.{rules}
 use Rattle.sheets.proofs.parameters.four_bisected.Given as goal
 
 abbrev pub invariant-loop-q : goal.invariant-loop-q

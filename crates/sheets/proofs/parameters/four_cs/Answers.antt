@@ -1,12 +1,6 @@
 -- `sheets::parameters::four_cs` meets its contract. The invariant: the first q are in place. Assumes nothing.
-use Prim.Native.Nat.{◌+◌, ◌-◌, ◌≤◌}
 use native.Mathlib.Omega.{arith}
-use lib.Ieee.{nan}
-use Rattle.arith.specs.Double.{at}
-use Rattle.lanes.proofs.Laws.{Stored, none_stored, one_stored}
-use Rattle.requests.specs.Refusals.{cs_of}
-use Rattle.sheets.specs.Sheet.{mode_with}
-use borrow.Author.Rules.{rules}
+use Rattle.lanes.proofs.Laws.{none_stored, one_stored}
 use Rattle.sheets.proofs.parameters.four_cs.Goals as goal
 
 pub loop-q-init : goal.loop-q-init

@@ -1,12 +1,10 @@
 -- `sheets::parameters::four_cs` meets its contract. The invariant: the first q are in place. Assumes nothing.
 use Prim.Native.Nat.{◌+◌, ◌-◌, ◌≤◌}
-use native.Mathlib.Omega.{arith}
 use lib.Ieee.{nan}
 use Rattle.arith.specs.Double.{at}
-use Rattle.lanes.proofs.Laws.{Stored, none_stored, one_stored}
+use Rattle.lanes.proofs.Laws.{Stored}
 use Rattle.requests.specs.Refusals.{cs_of}
 use Rattle.sheets.specs.Sheet.{mode_with}
-use borrow.Author.Rules.{rules}
 use Rattle.sheets.proofs.parameters.four_cs.Given as goal
 
 abbrev pub invariant-loop-q : goal.invariant-loop-q

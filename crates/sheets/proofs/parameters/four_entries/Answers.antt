@@ -1,18 +1,13 @@
 -- `sheets::parameters::four_entries` meets its contract. The invariant: the first q are in place. Assumes nothing.
-use Prim.Native.Nat.{◌+◌, ◌-◌, ◌≤◌}
 use native.Mathlib.Omega.{arith}
-use Rattle.arith.specs.Double.{at}
-use Rattle.lanes.proofs.Laws.{Stored, none_stored, one_stored}
-use Rattle.requests.specs.Refusals.{entries_of}
-use Rattle.sheets.specs.Sheet.{mode_with}
-use borrow.Author.Rules.{rules}
+use Rattle.lanes.proofs.Laws.{none_stored, one_stored}
 use Rattle.sheets.proofs.parameters.four_entries.Goals as goal
 
 pub loop-q-init : goal.loop-q-init
 loop-q-init c = (omega arith, none_stored _ _ _ _)
 
 pub entries-requires : goal.entries-requires
-entries-requires c = (c.requires.1 c.loop-q.q (omega arith)).0
+entries-requires c = (c.requires.bisected c.loop-q.q (omega arith)).0
 
 pub loop-q-preserved : goal.loop-q-preserved
 loop-q-preserved c =

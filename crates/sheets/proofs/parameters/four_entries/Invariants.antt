@@ -1,11 +1,9 @@
 -- `sheets::parameters::four_entries` meets its contract. The invariant: the first q are in place. Assumes nothing.
 use Prim.Native.Nat.{◌+◌, ◌-◌, ◌≤◌}
-use native.Mathlib.Omega.{arith}
 use Rattle.arith.specs.Double.{at}
-use Rattle.lanes.proofs.Laws.{Stored, none_stored, one_stored}
+use Rattle.lanes.proofs.Laws.{Stored}
 use Rattle.requests.specs.Refusals.{entries_of}
 use Rattle.sheets.specs.Sheet.{mode_with}
-use borrow.Author.Rules.{rules}
 use Rattle.sheets.proofs.parameters.four_entries.Given as goal
 
 abbrev pub invariant-loop-q : goal.invariant-loop-q

@@ -1,6 +1,5 @@
 -- `sheets::parameters::one_row` meets its contract. Assumes nothing.
 use Rattle.sheets.proofs.Rows.{rows_one}
-use borrow.Author.Rules.{rules}
 use Rattle.sheets.proofs.parameters.one_row.Goals as goal
 
 pub returns : goal.returns

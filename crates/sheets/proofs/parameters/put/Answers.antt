@@ -1,11 +1,7 @@
 -- `sheets::parameters::put` meets its contract. The invariant: the first q values are in place. Assumes nothing.
-use Prim.Native.Nat.{◌+◌, ◌-◌, ◌≤◌}
 use mathlib.Core.Path.{refl}
 use native.Mathlib.Omega.{arith}
-use lib.Ieee.{nan}
-use Rattle.arith.specs.Double.{at}
-use Rattle.lanes.proofs.Laws.{Stored, none_stored, one_stored}
-use borrow.Author.Rules.{rules}
+use Rattle.lanes.proofs.Laws.{none_stored, one_stored}
 use Rattle.sheets.proofs.parameters.put.Goals as goal
 
 pub loop-q-init : goal.loop-q-init

@@ -1,11 +1,8 @@
 -- `sheets::parameters::put` meets its contract. The invariant: the first q values are in place. Assumes nothing.
 use Prim.Native.Nat.{◌+◌, ◌-◌, ◌≤◌}
-use mathlib.Core.Path.{refl}
-use native.Mathlib.Omega.{arith}
 use lib.Ieee.{nan}
 use Rattle.arith.specs.Double.{at}
-use Rattle.lanes.proofs.Laws.{Stored, none_stored, one_stored}
-use borrow.Author.Rules.{rules}
+use Rattle.lanes.proofs.Laws.{Stored}
 use Rattle.sheets.proofs.parameters.put.Given as goal
 
 abbrev pub invariant-loop-q : goal.invariant-loop-q

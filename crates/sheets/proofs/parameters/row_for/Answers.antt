@@ -6,7 +6,6 @@ use Rattle.requests.proofs.Laws.{ranges}
 use Rattle.requests.proofs.Given.{numbered_is}
 use Rattle.sheets.specs.Sheet.{mode_with}
 use Rattle.sheets.proofs.Laws as laws
-use borrow.Author.Rules.{rules}
 use Rattle.sheets.proofs.parameters.row_for.Goals as goal
 
 pub overflow_sub-result : goal.overflow_sub-result

@@ -1,5 +1,5 @@
 -- `sheets::sheets::fill` meets its contract. The invariant: the pairs of the first i parameters are in place. Assumes nothing.
-use Prim.Native.Nat.{ℕ, ◌+◌, ◌-◌, ◌*◌, ◌≤◌, ◌<◌}
+use Prim.Native.Nat.{ℕ, ◌-◌, ◌*◌, ◌<◌}
 use mathlib.Core.Path.{◌≡◌, refl, sym, ap, ◌∙◌}
 use mathlib.Core.List.{List, ◌++◌}
 use native.Mathlib.Omega.{arith}
@@ -15,7 +15,6 @@ use Rattle.requests.specs.Refusals.{mode_refusal}
 use Rattle.requests.proofs.Laws.{usable}
 use Rattle.sheets.specs.Sheet.{mode_with, each}
 use Rattle.sheets.proofs.Laws as laws
-use borrow.Author.Rules.{rules}
 use Rattle.sheets.proofs.sheets.fill.Goals as goal
 use Rattle.sheets.proofs.sheets.fill.Invariants.{row_of_pairs}
 
@@ -32,7 +31,7 @@ offset_bounds-block-from c =
     let l = c.loop-i in
     let p = laws.passed a.m a.n _ _ _ c.requires in
     let room = laws.room_for l.i _ _ _ (omega arith) p.room in
-    let few = laws.few-places l.i _ (omega (arith, p.few)) p.short in
+    let few = laws.few_places l.i _ (omega (arith, p.few)) p.short in
     omega (arith, l.invariant.1)
 
 pub slice_bounds-aswfa_each-count : goal.slice_bounds-aswfa_each-count
@@ -41,7 +40,7 @@ slice_bounds-aswfa_each-count c =
     let l = c.loop-i in
     let p = laws.passed a.m a.n _ _ _ c.requires in
     let room = laws.room_for l.i _ _ _ (omega arith) p.room in
-    let few = laws.few-places l.i _ (omega (arith, p.few)) p.short in
+    let few = laws.few_places l.i _ (omega (arith, p.few)) p.short in
     omega (arith, l.invariant.1, l.invariant.2)
 
 pub slice_bounds-aswfa_each-start : goal.slice_bounds-aswfa_each-start
@@ -50,7 +49,7 @@ slice_bounds-aswfa_each-start c =
     let l = c.loop-i in
     let p = laws.passed a.m a.n _ _ _ c.requires in
     let room = laws.room_for l.i _ _ _ (omega arith) p.room in
-    let few = laws.few-places l.i _ (omega (arith, p.few)) p.short in
+    let few = laws.few_places l.i _ (omega (arith, p.few)) p.short in
     omega (arith, l.invariant.1, l.invariant.2)
 
 pub aswfa_each-requires : goal.aswfa_each-requires
@@ -71,7 +70,7 @@ overflow_add-from c =
     let l = c.loop-i in
     let p = laws.passed a.m a.n _ _ _ c.requires in
     let room = laws.room_for l.i _ _ _ (omega arith) p.room in
-    let few = laws.few-places l.i _ (omega (arith, p.few)) p.short in
+    let few = laws.few_places l.i _ (omega (arith, p.few)) p.short in
     omega (arith, l.invariant.1)
 
 pub loop-i-preserved : goal.loop-i-preserved

@@ -1,21 +1,13 @@
 -- `sheets::sheets::fill` meets its contract. The invariant: the pairs of the first i parameters are in place. Assumes nothing.
-use Prim.Native.Nat.{ℕ, ◌+◌, ◌-◌, ◌*◌, ◌≤◌, ◌<◌}
-use mathlib.Core.Path.{◌≡◌, refl, sym, ap, ◌∙◌}
+use Prim.Native.Nat.{ℕ, ◌-◌, ◌*◌, ◌≤◌, ◌<◌}
+use mathlib.Core.Path.{◌≡◌}
 use mathlib.Core.List.{List, ◌++◌}
-use native.Mathlib.Omega.{arith}
-use native.Mathlib.Nat.{zero-mul, mul_left_comm}
 use lib.Ieee.{Float}
 use lib.ListN.{length, take, drop}
-use lib.Seq.{length-take-le, take_all}
 use Rattle.arith.specs.Double.{at}
 use Rattle.angular.specs.Aswfa.{aswfa}
 use Rattle.angular.specs.Inside.Turns.{in_turn}
-use Rattle.angular.proofs.Turns.{in_turn_length}
-use Rattle.requests.specs.Refusals.{mode_refusal}
-use Rattle.requests.proofs.Laws.{usable}
-use Rattle.sheets.specs.Sheet.{mode_with, each}
-use Rattle.sheets.proofs.Laws as laws
-use borrow.Author.Rules.{rules}
+use Rattle.sheets.specs.Sheet.{each}
 use Rattle.sheets.proofs.sheets.fill.Given as goal
 
 -- the pairs of c with the characteristic value cv c

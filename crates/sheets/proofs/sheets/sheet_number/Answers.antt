@@ -5,7 +5,6 @@ use lib.ListN.{length, length-replicate}
 use Rattle.arith.specs.Double.{#0}
 use Rattle.sheets.specs.Sheet.{cv_for}
 use Rattle.sheets.proofs.Laws as laws
-use borrow.Author.Rules.{rules}
 use Rattle.sheets.proofs.sheets.sheet_number.Goals as goal
 
 pub returns-then-refused-ne0 : goal.returns-then-refused-ne0
@@ -31,4 +30,4 @@ returns c =
     let values = c.characteristic_values-refused_row.ensures in
     let zero : c.characteristic_values-refused_row.result ≡ 0 = omega arith in
     laws.sheet_done a.kind a.m a.n a.allowance _ _ _ _ c.lists_refusal-refused.ensures c.if-refused-ne0.false c.if-xs-eq0.false _ values.value _ zero
-    (c.fill.ensures (cv_for a.kind a.m a.n a.allowance) (values.i_after zero))
+    (c.fill.ensures (cv_for a.kind a.m a.n a.allowance) (values.values zero))

@@ -1,11 +1,7 @@
 -- `stream::response::put_d_lines` meets its contract. The invariant: the lines of the modes so far are put. Assumes nothing.
-use Prim.Native.Nat.{◌+◌, ◌-◌, ◌*◌, ◌≤◌}
 use mathlib.Core.Path.{◌≡◌, refl}
 use native.Mathlib.Omega.{arith}
 use native.Mathlib.Numerals.{add-one}
-use lib.ListN.{length}
-use borrow.Author.Rules.{rules}
-use Rattle.records.specs.Text.{Put}
 use Rattle.records.proofs.Laws.{put_nothing, put_then, put_length}
 use Rattle.stream.specs.Response.{d_lines}
 use Rattle.stream.proofs.response.put_d_lines.Goals as goal

@@ -1,6 +1,5 @@
 -- `stream::stream::answer_end` meets its contract. Assumes nothing.
 use native.Mathlib.Omega.{arith}
-use borrow.Author.Rules.{rules}
 use borrow.Author.Tests.{le-leb, lt-leb}
 use Rattle.records.proofs.Laws.{put_nothing}
 use Rattle.stream.proofs.stream.answer_end.Goals as goal

@@ -1,27 +1,11 @@
 -- `stream::stream::answer_some` meets its contract. The invariant: what is put so far, and what is left to do, give what the whole call gives. Assumes nothing.
-use Prim.Native.Nat.{◌+◌, ◌-◌, ◌≤◌}
-use mathlib.Core.Path.{◌≡◌, refl, sym, ◌∙◌}
-use mathlib.Core.Logic.{◌⊎◌, inl, inr, ⊎_elim}
-use mathlib.Core.List.{[], ◌∷◌}
+use mathlib.Core.Path.{refl, sym, ◌∙◌}
+use mathlib.Core.Logic.{inl, inr, ⊎_elim}
 use native.Mathlib.Omega.{arith}
-use types.Run.{OneOf}
-use denote.Enum.Declared.{tag_of}
-use lib.ListN.{length}
-use borrow.Author.Rules.{rules}
-use Rattle.records.specs.declared.record.Next.{Next}
-use Rattle.records.specs.declared.record.Next.TheVariants.{Whole, Unmarked, Cut, End}
-use Rattle.records.specs.contracts.record.Next.{the_type}
 use Rattle.records.proofs.Laws.{put_length}
 use Rattle.stream.proofs.Nexts.{whole_told}
 use Rattle.stream.proofs.Reached as reached
 use Rattle.stream.proofs.stream.answer_some.Goals as goal
-
--- the last arm's two cases, by their tags
-stopped : (x : Next) → OneOf (2 ∷ 3 ∷ []) (tag_of the_type x) → (x ≡ End) ⊎ (x ≡ Cut)
-stopped (Whole r size) k = absurd (⊎_elim (λ e. omega arith) (λ e. omega arith) k)
-stopped Unmarked k = absurd (⊎_elim (λ e. omega arith) (λ e. omega arith) k)
-stopped Cut k = inr refl
-stopped End k = inl refl
 
 pub loop-out-init : goal.loop-out-init
 loop-out-init c = (refl, omega arith, omega arith, reached.start _ _ _ _)
@@ -31,26 +15,26 @@ overflow_sub-out c = let l = c.loop-out in omega (arith, l.invariant.0, l.invari
 
 pub overflow_add-index : goal.overflow_add-index
 overflow_add-index c =
-    let e = sym c.next_record-next.ensures ∙ c.next-1.given.1 in
+    let e = sym c.next_record-next.ensures ∙ c.in-Whole.is in
     let w = whole_told _ _ e in
     omega (arith, w.fits, w.least)
 
 pub overflow_add-at : goal.overflow_add-at
 overflow_add-at c =
-    let e = sym c.next_record-next.ensures ∙ c.next-1.given.1 in
+    let e = sym c.next_record-next.ensures ∙ c.in-Whole.is in
     let w = whole_told _ _ e in
     omega (arith, w.fits)
 
 pub loop-out-smaller : goal.loop-out-smaller
 loop-out-smaller c =
-    let e = sym c.next_record-next.ensures ∙ c.next-1.given.1 in
+    let e = sym c.next_record-next.ensures ∙ c.in-Whole.is in
     let w = whole_told _ _ e in
     omega (arith, w.fits, w.least)
 
 pub loop-out-preserved : goal.loop-out-preserved
 loop-out-preserved c =
     let l = c.loop-out in
-    let e = sym c.next_record-next.ensures ∙ c.next-1.given.1 in
+    let e = sym c.next_record-next.ensures ∙ c.in-Whole.is in
     let w = whole_told _ _ e in
     let p = c.respond-used.ensures in
     let s = reached.answered_one l.invariant.3 c.loop-out-test.true _ _ e p.put in
@@ -59,7 +43,7 @@ loop-out-preserved c =
 pub returns-in-Unmarked : goal.returns-in-Unmarked
 returns-in-Unmarked c =
     let l = c.loop-out in
-    let e = sym c.next_record-next.ensures ∙ c.enum_told-1.given.1 in
+    let e = sym c.next_record-next.ensures ∙ c.in-Unmarked.is in
     let d = reached.unmarked l.invariant.3 c.loop-out-test.true e c.r_line-end.ensures.put in
     record { put = d.put; value = d.is }
 
@@ -68,7 +52,7 @@ returns-in-Cut c =
     let l = c.loop-out in
     let roomy = c.loop-out-test.true in
     let next = sym c.next_record-next.ensures in
-    let d = reached.through l.invariant.3 roomy (⊎_elim (λ e. inl (next ∙ e)) (λ e. inr (next ∙ e)) (stopped _ c.in-Whole.keys3)) in
+    let d = reached.through l.invariant.3 roomy (⊎_elim (λ e. inr (next ∙ e)) (λ e. inl (next ∙ e)) c.in-Cut.is) in
     record { put = d.put; value = d.is }
 
 pub returns : goal.returns

@@ -1,18 +1,7 @@
 -- `stream::stream::answer_some` meets its contract. The invariant: what is put so far, and what is left to do, give what the whole call gives. Assumes nothing.
 use Prim.Native.Nat.{◌+◌, ◌-◌, ◌≤◌}
-use mathlib.Core.Path.{◌≡◌, refl, sym, ◌∙◌}
-use mathlib.Core.Logic.{◌⊎◌, inl, inr, ⊎_elim}
-use mathlib.Core.List.{[], ◌∷◌}
-use native.Mathlib.Omega.{arith}
-use types.Run.{OneOf}
-use denote.Enum.Declared.{tag_of}
+use mathlib.Core.Path.{◌≡◌}
 use lib.ListN.{length}
-use borrow.Author.Rules.{rules}
-use Rattle.records.specs.declared.record.Next.{Next}
-use Rattle.records.specs.declared.record.Next.TheVariants.{Whole, Unmarked, Cut, End}
-use Rattle.records.specs.contracts.record.Next.{the_type}
-use Rattle.records.proofs.Laws.{put_length}
-use Rattle.stream.proofs.Nexts.{whole_told}
 use Rattle.stream.proofs.Reached as reached
 use Rattle.stream.proofs.stream.answer_some.Given as goal
 
