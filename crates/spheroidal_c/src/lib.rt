@@ -2,10 +2,11 @@
 // refusal number, or 0, and asks nothing: a refused call leaves every place as it was.
 #![tactic(auto)]
 
-ghost use Rattle.std.specs.Prelude.{◌≡◌};
+ghost use Rattle.std.specs.Prelude.{◌≡◌, ℕ};
 ghost use Rattle.segv.specs.Row.{slices, answer};
 ghost use Rattle.requests.specs.declared.checking.Kind.TheVariants.{Prolate, Oblate};
 ghost use Rattle.rows.specs.Rows.{row_of, dlmf_of};
+ghost use Rattle.requests.specs.Answers.{given};
 ghost use Rattle.modes.specs.Coefficients.{coefficients_of};
 ghost use Rattle.modes.specs.Angular.{angular_of};
 ghost use Rattle.modes.specs.Radial.{radial_of};
@@ -13,7 +14,17 @@ ghost use Rattle.modes.specs.FirstKind.{first_of};
 ghost use Rattle.sheets.specs.Sheet.{sheet_of};
 ghost use Rattle.spheroidal_c.specs.Places.{pair_put, quadruple_put};
 
-use modes::{Answer, Kind, Mode};
+use modes::{Answer, Kind, Mode, SliceAnswer};
+
+// The number behind an answer.
+fn number(answer: SliceAnswer) -> u8
+    ensures { (k : ℕ) → answer ≡ given k → result ≡ k }
+{
+    match answer {
+        SliceAnswer::Filled => 0,
+        SliceAnswer::Refused(refusal) => refusal,
+    }
+}
 
 fn row(
     kind: Kind,
@@ -28,7 +39,7 @@ fn row(
     ensures { answer result (slices values.new steps.new lowers.new uppers.new substituted.new)
         ≡ row_of kind mode allowance (slices values.old steps.old lowers.old uppers.old substituted.old) }
 {
-    requests::slice_number(modes::row(
+    number(modes::row(
         kind,
         mode,
         allowance,
@@ -43,13 +54,13 @@ fn row(
 fn dlmf_row(kind: Kind, mode: Mode, allowance: u32, values: &mut [f64]) -> u8
     ensures { answer result values.new ≡ dlmf_of kind mode allowance values.old }
 {
-    requests::slice_number(modes::dlmf_row(kind, mode, allowance, values))
+    number(modes::dlmf_row(kind, mode, allowance, values))
 }
 
 fn coefficients(kind: Kind, mode: Mode, cv: f64, values: &mut [f64]) -> u8
     ensures { answer result values.new ≡ coefficients_of kind mode cv values.old }
 {
-    requests::slice_number(modes::coefficients(kind, mode, cv, values))
+    number(modes::coefficients(kind, mode, cv, values))
 }
 
 // Writes a pair into its places, or nothing for a refusal. The library never answers a call for a pair otherwise.
@@ -109,7 +120,7 @@ fn sheet(
 ) -> u8
     ensures { answer result block.new ≡ sheet_of kind m n allowance cs.now xs.now block.old }
 {
-    requests::slice_number(sheets::sheet(kind, m, n, allowance, cs, xs, block))
+    number(sheets::sheet(kind, m, n, allowance, cs, xs, block))
 }
 
 // The characteristic values of the modes from m to n, each with its step number, its bracket, and 1 where 1e-30 was put

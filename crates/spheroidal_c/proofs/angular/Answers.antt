@@ -1,5 +1,4 @@
 -- `spheroidal_c::angular` meets its contract. Assumes nothing.
-use borrow.Author.Rules.{rules}
 use Rattle.spheroidal_c.proofs.angular.Goals as goal
 
 pub returns : goal.returns

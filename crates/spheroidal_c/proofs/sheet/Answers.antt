@@ -1,7 +1,6 @@
 -- `spheroidal_c::sheet` meets its contract. Assumes nothing.
-use Rattle.requests.proofs.Given.{numbered_is}
-use borrow.Author.Rules.{rules}
+use Rattle.spheroidal_c.proofs.Laws as laws
 use Rattle.spheroidal_c.proofs.sheet.Goals as goal
 
 pub returns : goal.returns
-returns c = numbered_is _ _ _ _ c.sheet.ensures c.slice_number.ensures
+returns c = laws.numbered_is _ _ _ _ c.sheet.ensures c.number.ensures

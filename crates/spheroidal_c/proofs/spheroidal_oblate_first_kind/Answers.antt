@@ -1,5 +1,4 @@
 -- `spheroidal_c::spheroidal_oblate_first_kind` meets its contract. Assumes nothing.
-use borrow.Author.Rules.{rules}
 use Rattle.spheroidal_c.proofs.spheroidal_oblate_first_kind.Goals as goal
 
 pub returns : goal.returns

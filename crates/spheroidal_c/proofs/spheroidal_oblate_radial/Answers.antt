@@ -1,5 +1,4 @@
 -- `spheroidal_c::spheroidal_oblate_radial` meets its contract. Assumes nothing.
-use borrow.Author.Rules.{rules}
 use Rattle.spheroidal_c.proofs.spheroidal_oblate_radial.Goals as goal
 
 pub returns : goal.returns
