@@ -1,13 +1,8 @@
 -- `reading::answer_all` meets its contract: the loop is left only where it may end. Assumes nothing.
 use Prim.Native.Nat.{◌-◌}
-use mathlib.Core.Path.{◌≡◌, refl, sym, ◌∙◌}
-use mathlib.Core.Logic.{inl, inr}
-use native.Mathlib.Omega.{arith}
+use mathlib.Core.Path.{◌≡◌}
 use lib.ListN.{length}
-use borrow.Author.Rules.{rules}
-use borrow.Author.Tests.{not-true, not-false}
 use Rattle.reading.specs.Loop.{Goes, Keeps}
-use Rattle.reading.proofs.Readings as readings
 use Rattle.reading.proofs.answer_all.Given as goal
 
 abbrev pub invariant-loop-last : goal.invariant-loop-last

@@ -1,10 +1,7 @@
 -- `reading::answer_arrived` meets its contract: the calls are those of the definition, and each comes further. Assumes nothing.
-use Prim.Native.Nat.{◌-◌}
-use mathlib.Core.Path.{◌≡◌, refl, sym, ◌∙◌}
+use mathlib.Core.Path.{refl, sym, ◌∙◌}
 use native.Mathlib.Omega.{arith}
-use lib.ListN.{length}
 use lib.Seq.{length-take-le}
-use borrow.Author.Rules.{rules}
 use Rattle.stream.proofs.Laws.{put_length}
 use Rattle.reading.proofs.Calls as calls
 use Rattle.reading.proofs.answer_arrived.Goals as goal

@@ -7,7 +7,6 @@ use native.Mathlib.Nat.{add_comm}
 use native.Mathlib.Numerals.{add-one}
 use lib.ListN.{length, take, drop, set, get_or, length-set, length-drop}
 use lib.Seq.{length-take-le, take-suc, take-suc-set, get_or-drop, drop-set-lt, drop-drop, take-add, drop_at}
-use borrow.Author.Rules.{rules}
 use Rattle.reading.proofs.keep.Goals as goal
 use Rattle.reading.proofs.keep.Invariants.{Moved}
 

@@ -1,13 +1,8 @@
 -- `reading::keep` meets its contract: a byte is read before it is written over, since each goes nearer to the front. Assumes nothing.
-use Prim.Native.Nat.{ℕ, ◌+◌, ◌-◌, ◌<◌, ◌≤◌}
-use mathlib.Core.Path.{◌≡◌, refl, sym, ap, ◌∙◌}
+use Prim.Native.Nat.{ℕ, ◌-◌, ◌≤◌}
+use mathlib.Core.Path.{◌≡◌}
 use mathlib.Core.List.{List}
-use native.Mathlib.Omega.{arith}
-use native.Mathlib.Nat.{add_comm}
-use native.Mathlib.Numerals.{add-one}
-use lib.ListN.{length, take, drop, set, get_or, length-set, length-drop}
-use lib.Seq.{length-take-le, take-suc, take-suc-set, get_or-drop, drop-set-lt, drop-drop, take-add, drop_at}
-use borrow.Author.Rules.{rules}
+use lib.ListN.{length, take, drop}
 use Rattle.reading.proofs.keep.Given as goal
 
 -- the first i bytes are moved, and the others are as they were
