@@ -532,7 +532,9 @@ def run(options):
     fields = fields_of(what, options.words)
     ranges = [fields.get("x", [])] + ([fields["c"]] if what == "sheet" else [])
     if options.plot and min(map(len, ranges)) < 2:
-        raise Misunderstood("--plot is for angular, radial, first and sheet with start:stop:count as x, in sheets as c too")
+        if what == "sheet":
+            raise Misunderstood("--plot of a sheet is for c=start:stop:count and x=start:stop:count")
+        raise Misunderstood("--plot is for angular, radial and first with x=start:stop:count")
     if options.wronskian and what != "radial":
         raise Misunderstood("--wronskian is for radial")
     if (options.numbers or options.derivative) and what != "sheet":
