@@ -1,9 +1,10 @@
 -- How the search for an order and the recurrence unfold, in the form in which the proofs of the code meet it. Assumes nothing.
 use Prim.Native.Nat.{ℕ, suc, ◌+◌, ◌-◌, ◌≤◌, ◌<◌}
-use mathlib.Core.Path.{◌≡◌, sym, ◌∙◌}
+use mathlib.Core.Path.{◌≡◌, refl, sym, ◌∙◌}
 use mathlib.Core.Bool.{Bool, true, false, ◌&&◌}
 use mathlib.Core.List.{List}
 use native.Mathlib.Omega.{arith}
+use borrow.Author.Tests.{eq-eqb}
 use lib.Dec.{T, eqb, ltb, leb, leb→le}
 use lib.Ieee.{Float}
 use lib.ListN.{set}
@@ -34,6 +35,10 @@ module _ (a0 obj : Float) (left n0 : ℕ) (f0 : Float) (n1 : ℕ) (f1 : Float) (
   pub onward : may_try k ≡ true → eqb k n1 ≡ false → secant a0 obj left n1 f1 k (excess a0 obj k) ≡ secant a0 obj (suc left) n0 f0 n1 f1
   unfolding secant
   onward h t = rw e (sym (rw (rw e at h, rw e at t, secant)))
+
+-- an order met again ends the search
+pub met_again : (a0 obj : Float) (left n0 : ℕ) (f0 : Float) (n1 : ℕ) (f1 : Float) → 0 < left → may_try (meeting n0 f0 n1 f1) ≡ true → meeting n0 f0 n1 f1 ≡ n1 → secant a0 obj left n0 f0 n1 f1 ≡ n1
+met_again a0 obj left n0 f0 n1 f1 l h e = rw (one_more left l) (sym (again a0 obj (left - 1) n0 f0 n1 f1 (meeting n0 f0 n1 f1) refl h (eq-eqb _ _ e)) ∙ e)
 
 -- ---- the first two orders
 module _ (a0 obj : Float) (n0 : ℕ) where

@@ -29,6 +29,7 @@ fn meeting(n0: u32, f0: f64, n1: u32, f1: f64) -> u32
 }
 
 // At most 20 steps from the orders n0 and n1: 0 where an order may not be tried.
+#[tactic(auto, using(crate::proofs::Laws::met_again, crate::proofs::Laws::tried_most))]
 fn secant(a0: f64, obj: f64, first: u32, second: u32) -> u32
     requires { second ≤ 100000 }
     ensures value { result ≡ Secant.secant a0 obj 20 first (Secant.excess a0 obj first) second (Secant.excess a0 obj second) }

@@ -9,6 +9,7 @@ use expansion::sckb::Partial;
 use radial_sums::rmn1::Pair;
 
 // The stopping test of a sum after its k-th term; gw is the sum remembered.
+#[tactic(auto, unfolding(crate::specs::Gmn::ends))]
 fn ends(k: u32, sum: f64, gw: f64) -> bool
     ensures { result ≡ Gmn.ends k sum gw }
 {

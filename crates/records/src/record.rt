@@ -113,6 +113,7 @@ fn decode(input: &[u8], at: usize, width: usize) -> Record
 // What the input has from at on. Both marks have two bytes, so that one byte alone tells nothing. The
 // contract rules out an allowance cut to 16 bits, a new record taken whole with an old one's 33 bytes,
 // and a wrong mark told as a record that is cut short.
+#[tactic(auto, unfolding(crate::specs::Record::next_at))]
 pub fn next_record(input: &[u8], at: usize) -> Next
     ensures { result ≡ next_at input.now at }
 {

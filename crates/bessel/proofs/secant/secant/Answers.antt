@@ -2,9 +2,9 @@
 use Prim.Native.Nat.{◌-◌}
 use mathlib.Core.Path.{sym, ◌∙◌}
 use native.Mathlib.Omega.{arith}
-use borrow.Author.Tests.{eq-eqb, ne_eqb}
+use borrow.Author.Tests.{ne_eqb}
 use Rattle.bessel.specs.Secant.{secant}
-use Rattle.bessel.proofs.Laws.{one_more, none_left, not_tried, again, onward, tried_most}
+use Rattle.bessel.proofs.Laws.{one_more, none_left, not_tried, onward, tried_most}
 use Rattle.bessel.proofs.secant.secant.Goals as goal
 
 pub loop-left-init : goal.loop-left-init
@@ -15,13 +15,6 @@ returns-then-not-may_try c =
     let l = c.loop-left in
     let h = one_more l.left c.loop-left-test.true in
     record { value = not_tried _ _ (l.left - 1) l.n0 l.f0 l.n1 l.f1 _ c.meeting-nn.ensures (sym c.may_try.ensures ∙ c.if-not-may_try.true) ∙ rw h at l.invariant.1; upper_bound = omega arith }
-
-pub returns-then-nn-n1 : goal.returns-then-nn-n1
-returns-then-nn-n1 c =
-    let l = c.loop-left in
-    let h = one_more l.left c.loop-left-test.true in
-    let t = sym c.may_try.ensures ∙ c.if-not-may_try.false in
-    record { value = again _ _ (l.left - 1) l.n0 l.f0 l.n1 l.f1 _ c.meeting-nn.ensures t (eq-eqb _ _ c.if-nn-n1.true) ∙ rw h at l.invariant.1; upper_bound = tried_most _ t }
 
 pub loop-left-preserved : goal.loop-left-preserved
 loop-left-preserved c =
