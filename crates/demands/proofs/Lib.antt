@@ -1,5 +1,6 @@
 -- Lemmas on accepted rows and what computing unfolds, then a proof of each statement.
 pub mod Zero
+pub mod Filled
 pub mod Handed
 pub mod Computed
 pub mod Demand1
