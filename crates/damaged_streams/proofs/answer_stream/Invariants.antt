@@ -1,15 +1,7 @@
 -- `damaged_streams::answer_stream` meets its contract: it reads and writes inside its buffers, and ends. Assumes nothing.
-use Prim.Native.Nat.{ℕ, ◌+◌, ◌-◌, ◌≤◌}
-use mathlib.Core.Path.{◌≡◌, refl, sym, ◌∙◌}
-use mathlib.Core.List.{List}
-use native.Mathlib.Omega.{arith}
-use lib.ListN.{length, take}
-use lib.Seq.{length-take-le}
-use borrow.Author.Rules.{rules}
-use Rattle.stream.specs.declared.stream.Progress.{Progress}
-use Rattle.stream.specs.Inside.Calls.{answered, progress}
-use Rattle.stream.proofs.Laws.{put_length}
-use Rattle.stream.proofs.StreamLaws.{moves}
+use Prim.Native.Nat.{ℕ, ◌-◌, ◌≤◌}
+use mathlib.Core.Path.{◌≡◌}
+use lib.ListN.{length}
 use Rattle.damaged_streams.proofs.answer_stream.Given as goal
 
 -- a call stays in what has arrived, and no record has fewer than a byte

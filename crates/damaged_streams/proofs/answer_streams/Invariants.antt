@@ -1,9 +1,7 @@
 -- `damaged_streams::answer_streams` lends each function what its contract asks, and ends. Assumes nothing.
-use Prim.Native.Nat.{◌+◌, ◌-◌, ◌≤◌}
+use Prim.Native.Nat.{◌-◌, ◌≤◌}
 use mathlib.Core.Path.{◌≡◌}
-use native.Mathlib.Omega.{arith}
 use lib.ListN.{length}
-use borrow.Author.Rules.{rules}
 use Rattle.damaged_streams.proofs.answer_streams.Given as goal
 
 abbrev pub invariant-loop-at : goal.invariant-loop-at

@@ -1,7 +1,6 @@
 -- `published_values::compare_all` meets its contract: it reads inside the input, and ends. Assumes nothing.
 use Prim.Native.Nat.{◌-◌, ◌≤◌}
 use lib.ListN.{length}
-use borrow.Author.Rules.{rules}
 use Rattle.published_values.proofs.compare_all.Given as goal
 
 abbrev pub invariant-loop-at : goal.invariant-loop-at
