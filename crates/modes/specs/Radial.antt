@@ -8,7 +8,7 @@ use Rattle.requests.specs.declared.answers.Answer.TheVariants.{Quadruple, Refuse
 use Rattle.requests.specs.declared.checking.Mode.{Mode}
 use Rattle.requests.specs.Refusals.{no_parameter, radial_mode_refusal, too_far}
 
--- ---- 8: x is NaN, infinite or below zero, which −0 isn't. It is what 5 asks of c: `noParameter`
+-- ---- 8: x is NaN, infinite or below zero, which −0 isn't. It is what 5 asks of c: `no_parameter`
 
 -- the first of 4, 5, 6, 7, 8 and 11 that applies, or 0 for none: for both kinds and for the first alone
 unfoldable pub radial_refusal : Mode → Float → Float → ℕ
