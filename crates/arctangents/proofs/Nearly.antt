@@ -2,9 +2,8 @@
 use mathlib.Core.Path.{◌≡◌, refl, sym, ap, ◌∙◌, subst}
 use mathlib.Core.Logic.{inl, inr}
 use Prim.Native.Nat.{ℕ, zero, suc, ◌+◌, ◌-◌, ◌*◌, ◌%◌, ◌^◌, ◌≤◌, ◌<◌}
-use native.Mathlib.Nat.{le_trans, le_of_eq, mod-eq_of_lt, mul-le-mul, mul-le-mul_right, le_of_mul-le-mul_right, zero-mul, add-mul}
+use native.Mathlib.Nat.{le_trans, le_of_eq, mod-eq_of_lt, mul-le-mul_right, zero-mul, add-mul}
 use native.Mathlib.Omega.{arith}
-use lib.Pow.{pow_pos}
 use Rattle.circle.specs.Inside.Fixed.{IsHigh}
 use Rattle.circle.specs.Inside.Signed.{plus, less}
 use Rattle.arctangents.specs.Inside.Arctangent.{Good}
@@ -14,22 +13,6 @@ shifted m h = mod-eq_of_lt (go m h)
   where
     go : (m : ℕ) → m < 2 ^ 53 → m * 1024 < 2 ^ 64
     go m h = omega arith
-
-pub wide : (m : ℕ) → m < 2 ^ 53 → m * 1024 % 2 ^ 64 ≤ 5 * 2 ^ 61
-wide m h = le_trans (le_of_eq (shifted m h)) (go m h)
-  where
-    go : (m : ℕ) → m < 2 ^ 53 → m * 2 ^ 10 ≤ 5 * 2 ^ 61
-    go m h = omega arith
-
--- the product fits with something to spare
-pub top_fits : (t m h : ℕ) → t ≤ 5 * 2 ^ 61 → m < 2 ^ 53 → IsHigh t (m * 1024 % 2 ^ 64) h → h + 4 < 2 ^ 64
-top_fits t m h a b i = spare h (le_of_mul-le-mul_right {k = 2 ^ 63} (le_trans i.low (mul-le-mul a (le_trans (le_of_eq (shifted m b)) (go m b)))) (pow_pos 63))
-  where
-    go : (m : ℕ) → m < 2 ^ 53 → m * 2 ^ 10 ≤ 2 ^ 63
-    go m h = omega arith
-
-    spare : (h : ℕ) → h ≤ 5 * 2 ^ 61 → h + 4 < 2 ^ 64
-    spare h l = omega arith
 
 pub one_of : (k : ℕ) → 0 < k → (c : ℕ) → (plus k c ≡ 0) × (less k c ≡ c)
 one_of zero h c = absurd (go h)

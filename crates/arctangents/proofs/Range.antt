@@ -113,9 +113,6 @@ module _ (a b m e : ℕ) (B : 0 < b) (h : a < 2 * b) (l : 2 ^ 52 ≤ m) (u : m <
       upper : m * 2 ^ 6 * 2 ^ e ≤ suc (m * 2 ^ 6 / g) * 2 ^ 2096
       upper = le_trans (mul-le-mul_right (2 ^ e) (le_trans (le_of_lt (lt-div-mul-add (pow_pos (2096 - e)))) (le_of_eq (sym (suc-mul (m * 2 ^ 6 / g) g))))) (le_of_eq (joined (suc (m * 2 ^ 6 / g))))
 
-pub shift_of : (e : ℕ) → 2033 ≤ e → 2096 - e < 64
-shift_of e h = omega arith
-
 pub less_none : (x : Float) → T (positive x) → C.less x ≡ 0
 less_none nan p = absurd p
 less_none (inf s) p = absurd p

@@ -5,7 +5,7 @@ use Prim.Native.Nat.{ℕ, ◌*◌, ◌/◌, ◌^◌, ◌≤◌, ◌<◌}
 use borrow.Author.Tests.{lt-ltb, le-ltb}
 use lib.Ieee.{Float, lt}
 use Rattle.arith.specs.Double.{#0, #2}
-use Rattle.arith.specs.declared.root.Scaled.{Scaled}
+use Rattle.arith.specs.Inside.Scaled.{Parts}
 use Rattle.circle.specs.Inside.FixedValues.{unpacked, parts}
 use Rattle.arctangents.specs.Inside.ArctangentValues.{encloses, fine, beneath, is_sure, guess, bisected, arctangent_above_zero}
 
@@ -26,7 +26,7 @@ module _ (g : Float) (m e : ℕ) where
   unfolding is_sure
   enclosed y low b h k f l n i = rw (h, k, ← f, lt-ltb _ _ l, ← n, ← i)
 
-module _ (x g : Float) (s : Scaled) (is : s ≡ unpacked x) (guessed : g ≡ guess x) where
+module _ (x g : Float) (s : Parts) (is : s ≡ unpacked x) (guessed : g ≡ guess x) where
   same : is_sure (guess x) (unpacked x).m (unpacked x).e ≡ is_sure g s.m s.e
   same = rw (is, guessed)
 

@@ -32,14 +32,16 @@ fn reaches(p: u64, q: u64, i: u64, j: u64) -> bool
     false
 }
 
-// Whether the sine is surely no less than m * 2^(e - 2148) times the cosine, with 2^-50 to spare for
-// each.
-fn above(c: u64, cn: u64, s: u64, sn: u64, m: u64, e: u64) -> bool
-    requires { (2 ^ 52 ≤ m) × (m < 2 ^ 53) }
-    ensures above { result ≡ true → Above cn c sn s m e }
-    ensures nearly_below { result ≡ false → Good cn c sn s → NearlyBelow cn c sn s m e }
-    ensures value { result ≡ ArctangentValues.above c cn s sn m e }
+// `above` and `below` stand beside each other: they differ in their tests and in what these tell.
+
+// Whether the sine is surely no less than x times the cosine, with 2^-50 to spare for each.
+fn above(p: circle::Pair, x: arith::Scaled) -> bool
+    ensures above { result ≡ true → Above p.cn p.c p.sn p.s x.m x.e }
+    ensures nearly_below { result ≡ false → Good p.cn p.c p.sn p.s → NearlyBelow p.cn p.c p.sn p.s x.m x.e }
+    ensures value { result ≡ ArctangentValues.above p.c p.cn p.s p.sn x.m x.e }
 {
+    let circle::Pair { c, cn, s, sn } = p;
+    let arith::Scaled { m, e } = x;
     if 0 < sn {
         return false;
     }
@@ -69,12 +71,13 @@ fn above(c: u64, cn: u64, s: u64, sn: u64, m: u64, e: u64) -> bool
 }
 
 // Whether it is surely no more.
-fn below(c: u64, cn: u64, s: u64, sn: u64, m: u64, e: u64) -> bool
-    requires { (2 ^ 52 ≤ m) × (m < 2 ^ 53) }
-    ensures below { result ≡ true → Below cn c sn s m e }
-    ensures nearly_above { result ≡ false → Good cn c sn s → NearlyAbove cn c sn s m e }
-    ensures value { result ≡ ArctangentValues.below c cn s sn m e }
+fn below(p: circle::Pair, x: arith::Scaled) -> bool
+    ensures below { result ≡ true → Below p.cn p.c p.sn p.s x.m x.e }
+    ensures nearly_above { result ≡ false → Good p.cn p.c p.sn p.s → NearlyAbove p.cn p.c p.sn p.s x.m x.e }
+    ensures value { result ≡ ArctangentValues.below p.c p.cn p.s p.sn x.m x.e }
 {
+    let circle::Pair { c, cn, s, sn } = p;
+    let arith::Scaled { m, e } = x;
     if 0 < cn {
         return false;
     }
@@ -94,58 +97,51 @@ fn below(c: u64, cn: u64, s: u64, sn: u64, m: u64, e: u64) -> bool
 }
 
 // The cosine and the sine 2^-40 further, from a cosine and a sine that are not negative.
-fn further(c: u64, s: u64) -> circle::Pair
-    requires { (c ≤ 9 * 2 ^ 60) × (s ≤ 9 * 2 ^ 60) }
-    ensures further { IsFurther c s result.cn result.c result.sn result.s }
-    ensures value { result ≡ ArctangentValues.further c s }
+fn further(p: circle::Pair) -> circle::Pair
+    requires { (p.c ≤ 9 * 2 ^ 60) × (p.s ≤ 9 * 2 ^ 60) }
+    ensures further { IsFurther p.c p.s result.cn result.c result.sn result.s }
+    ensures value { result ≡ ArctangentValues.further p.c p.s }
 {
-    let t = s >> 40;
+    let c = p.c;
+    let t = p.s >> 40;
+    let s = p.s + (c >> 40);
     if c < t {
         circle::Pair {
             c: t - c,
             cn: 1,
-            s: s + (c >> 40),
+            s,
             sn: 0,
         }
     } else {
         circle::Pair {
             c: c - t,
             cn: 0,
-            s: s + (c >> 40),
+            s,
             sn: 0,
         }
     }
 }
 
-// Whether the arctangent of m * 2^(e - 2148) lies surely from low / 2^58 to 2^-40 more.
-fn encloses(low: u64, m: u64, e: u64) -> bool
-    requires { (low + 2 ^ 18 ≤ 2 ^ 59) × (2 ^ 52 ≤ m) × (m < 2 ^ 53) }
-    ensures between { result ≡ true → Between low (low + 2 ^ 18) m e }
-    ensures value { result ≡ ArctangentValues.encloses low m e }
+// Whether the arctangent of x lies surely from low / 2^58 to 2^-40 more.
+fn encloses(low: u64, x: arith::Scaled) -> bool
+    requires { low + 2 ^ 18 ≤ 2 ^ 59 }
+    ensures between { result ≡ true → Between low (low + 2 ^ 18) x.m x.e }
+    ensures value { result ≡ ArctangentValues.encloses low x.m x.e }
 {
     let p = circle::circle(low, 5);
-    let c = p.c;
-    let cn = p.cn;
-    let s = p.s;
-    let sn = p.sn;
-    if 0 < cn {
+    if 0 < p.cn {
         return false;
     }
-    if 0 < sn {
+    if 0 < p.sn {
         return false;
     }
-    let q = further(c, s);
-    let d = q.c;
-    let dn = q.cn;
-    let t = q.s;
-    let tn = q.sn;
-    if !above(d, dn, t, tn, m, e) {
+    if !above(further(p), x) {
         return false;
     }
     if low == 0 {
         return true;
     }
-    below(c, cn, s, sn, m, e)
+    below(p, x)
 }
 
 // The whole part of g * 2^58, for a g below 2.
@@ -155,24 +151,11 @@ fn fine(g: f64) -> u64
     ensures fine { IsFine (num g) (den g) result }
     ensures value { result ≡ ArctangentValues.fine g }
 {
-    let s = circle::fixed::unpack(g);
-    let m = s.m;
-    let e = s.e;
+    let arith::Scaled { m, e } = circle::fixed::unpack(g);
     if e < 2033 {
         return 0;
     }
     (m << 6) >> (2096 - e)
-}
-
-// y less 2^17, or 0.
-fn beneath(y: u64) -> u64
-    ensures near { (result ≤ y) × (y ≤ result + 2 ^ 17) }
-    ensures value { result ≡ ArctangentValues.beneath y }
-{
-    if y < 0x20000 {
-        return 0;
-    }
-    y - 0x20000
 }
 
 // The arctangent of t, up to 3/16, less t, by its series to the 21st power.
@@ -257,53 +240,45 @@ struct Bracket {
 
 // Closer bounds, by the middle, or where the middle is too near to tell by a number 2^-42 above it:
 // there it is surely above.
-fn halved(low: u64, up: u64, m: u64, e: u64) -> Bracket
-    requires { (low + 0x3ffc0 < up) × (up ≤ 2 ^ 59) × (2 ^ 52 ≤ m) × (m < 2 ^ 53) × Between low up m e }
-    ensures halved { IsHalved low up m e result.low result.up }
-    ensures value { result ≡ ArctangentValues.halved low up m e }
+fn halved(b: Bracket, x: arith::Scaled) -> Bracket
+    requires { (b.low + 0x3ffc0 < b.up) × (b.up ≤ 2 ^ 59) × Between b.low b.up x.m x.e }
+    ensures halved { IsHalved b.low b.up x.m x.e result.low result.up }
+    ensures value { result ≡ ArctangentValues.halved b.low b.up x.m x.e }
 {
+    let Bracket { low, up } = b;
     let mid = low + (up - low) / 2;
     let p = circle::circle(mid, 5);
-    let c = p.c;
-    let cn = p.cn;
-    let s = p.s;
-    let sn = p.sn;
-    if above(c, cn, s, sn, m, e) {
-        return Bracket { low: low, up: mid };
+    if above(p, x) {
+        return Bracket { low, up: mid };
     }
-    if below(c, cn, s, sn, m, e) {
-        return Bracket { low: mid, up: up };
+    if below(p, x) {
+        return Bracket { low: mid, up };
     }
     let q = circle::circle(mid + 0x10000, 5);
-    let d = q.c;
-    let dn = q.cn;
-    let t = q.s;
-    let tn = q.sn;
-    if above(d, dn, t, tn, m, e) {
+    if above(q, x) {
         return Bracket {
-            low: low,
+            low,
             up: mid + 0x10000,
         };
     }
     // never
-    Bracket { low: low, up: low }
+    Bracket { low, up: low }
 }
 
-// A number within 2^-40 of the arctangent of m * 2^(e - 2148), by bisection, in units of 2^-58. It is
-// slow, and no argument is known that comes here.
-fn bisected(m: u64, e: u64) -> u64
-    requires { (2 ^ 52 ≤ m) × (m < 2 ^ 53) }
-    ensures found { Found m e result }
-    ensures value { result ≡ ArctangentValues.bisected m e }
+// A number within 2^-40 of the arctangent of x, by bisection, in units of 2^-58. It is slow, and no
+// argument is known that comes here. A `while`: the bounds tell when they are near enough.
+fn bisected(x: arith::Scaled) -> u64
+    ensures found { Found x.m x.e result }
+    ensures value { result ≡ ArctangentValues.bisected x.m x.e }
 {
-    let mut low: u64 = 0;
-    let mut up: u64 = 0x800_0000_0000_0000;
-    while low + 0x3ffc0 < up {
-        let r = halved(low, up, m, e);
-        low = r.low;
-        up = r.up;
+    let mut b = Bracket {
+        low: 0,
+        up: 0x800_0000_0000_0000,
+    };
+    while b.low + 0x3ffc0 < b.up {
+        b = halved(b, x);
     }
-    low
+    b.low
 }
 
 // The arctangent of a finite x above zero. How near the guess is is not proved, so its bounds are
@@ -315,20 +290,14 @@ fn arctangent_above_zero(x: f64) -> f64
     ensures value { result ≡ ArctangentValues.arctangent_above_zero x }
 {
     let s = circle::fixed::unpack(x);
-    let m = s.m;
-    let e = s.e;
     let g = guess(x);
-    if 0.0 < g {
-        if g < 2.0 {
-            let y = fine(g);
-            if y < 0x700_0000_0000_0000 {
-                if encloses(beneath(y), m, e) {
-                    return g;
-                }
-            }
+    if 0.0 < g && g < 2.0 {
+        let y = fine(g);
+        if y < 0x700_0000_0000_0000 && encloses(y.saturating_sub(0x20000), s) {
+            return g;
         }
     }
-    circle::fixed::parts(bisected(m, e) >> 6)
+    circle::fixed::parts(bisected(s) >> 6)
 }
 
 // The arctangent of a finite x from 0 on.

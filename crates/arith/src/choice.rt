@@ -3,7 +3,7 @@
 ghost use Rattle.std.specs.Prelude.{◌≡◌};
 ghost use Rattle.arith.specs.Choice.{abs, lesser, greater};
 
-// x with its sign cleared.
+// x with its sign cleared. Not `f64::abs`, which compares twice: in a chain of sums it is slower.
 pub fn abs(x: f64) -> f64
     ensures { result ≡ abs x }
 {
@@ -14,14 +14,14 @@ pub fn abs(x: f64) -> f64
     }
 }
 
-// b where it is below a, and else a.
+// b where it is below a, and else a. `f64::min` would drop a NaN and choose freely among equals.
 pub fn lesser(a: f64, b: f64) -> f64
     ensures { result ≡ lesser a b }
 {
     if b < a { b } else { a }
 }
 
-// b where it is above a, and else a.
+// b where it is above a, and else a. Not `f64::max`, for the same reasons.
 pub fn greater(a: f64, b: f64) -> f64
     ensures { result ≡ greater a b }
 {

@@ -3,12 +3,14 @@
 // know it by these contracts only.
 #![tactic(auto)]
 
+mod arrays;
 mod choice;
 mod pattern;
 mod powers;
 mod root;
 mod truncation;
 
+pub use arrays::filled;
 pub use choice::{abs, greater, lesser};
 pub use pattern::{from_bits, to_bits};
 pub use powers::{half_power, power};

@@ -7,20 +7,12 @@ ghost use Rattle.arith.specs.Double.{bits, bits_of};
 pub fn to_bits(x: f64) -> u64
     ensures { result ≡ bits_of x }
 {
-    if x == x {
-        f64::to_bits(x)
-    } else {
-        0x7ff8_0000_0000_0000
-    }
+    std::num::f64_to_bits_with_nan(x)
 }
 
 // The double with the bit pattern b.
 pub fn from_bits(b: u64) -> f64
     ensures { result ≡ bits b }
 {
-    if b % 0x8000_0000_0000_0000 <= 0x7ff0_0000_0000_0000 {
-        f64::from_bits(b)
-    } else {
-        0.0 / 0.0
-    }
+    std::num::f64_from_bits_with_nan(b)
 }

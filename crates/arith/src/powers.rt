@@ -7,7 +7,7 @@ pub fn power(y: f64, k: u32) -> f64
     ensures { result ≡ power y k }
 {
     let mut p = 1.0;
-    for i in 0..k {
+    for _ in 0..k {
         p = p * y;
     }
     p

@@ -7,17 +7,7 @@ ghost use Rattle.arith.specs.Truncation.{truncate, whole_part};
 pub fn truncate(x: f64) -> i32
     ensures { result ≡ truncate x }
 {
-    if x < 2147483648.0 {
-        if x > -2147483648.0 {
-            std::num::truncating_f64_to_i64(x) as i32
-        } else {
-            -2147483648
-        }
-    } else if x == x {
-        2147483647
-    } else {
-        0
-    }
+    std::num::saturating_f64_to_i32(x)
 }
 
 // The whole part of a double that is not below zero, as an index or a count needs it; of any other 0.

@@ -129,9 +129,6 @@ squares_most q h = go (q * q) (mul-le-mul h h)
     go : (x : ℕ) → x ≤ 40000 * 2 ^ 41 * (40000 * 2 ^ 41) → 4 * x + 108 * 2 ^ 63 ≤ 12 * 2 ^ 112
     go x h = omega (arith, h)
 
-pub square_under : (y q : ℕ) → y ≤ 200 * 2 ^ 52 → IsHigh y y q → q ≤ 2 ^ 63
-square_under y q h i = le_trans (square_most y q h i.low) (leb→le (40000 * 2 ^ 41) (2 ^ 63) tt)
-
 -- ---- both together
 pub first_is : (y q c g s : ℕ) → y ≤ 200 * 2 ^ 52 → IsHigh y y q → IsCosineSum q c → Alternating 10 q 1 30 10 g → IsHigh y g s → IsFirst y c s
 first_is y q c g s h sq cs t i = record {

@@ -1,11 +1,9 @@
 -- What a doubling does to the sizes, and how the code's step follows from its three products. Assumes nothing.
 use mathlib.Core.Path.{◌≡◌, refl, ap}
 use Prim.Native.Nat.{ℕ, suc, ◌+◌, ◌-◌, ◌*◌, ◌%◌, ◌^◌, ◌≤◌, ◌<◌}
-use native.Mathlib.Nat.{le_trans, le_of_eq, le_of_lt, lt_irrefl, lt_of_lt_of_le, lt_of_not-le, add_comm, mul-add, add-mul, mul_comm, mul_assoc, mul-le-mul, mul-le-mul_left, le_of_mul-le-mul_right}
+use native.Mathlib.Nat.{le_trans, le_of_eq, le_of_lt, lt_irrefl, lt_of_lt_of_le, lt_of_not-le, add_comm, mul-add, add-mul, mul_comm, mul_assoc, mul-le-mul, mul-le-mul_left}
 use native.Mathlib.Decide.{dec_le}
 use native.Mathlib.Omega.{arith}
-use lib.Pow.{pow_pos}
-use lib.Dec.{leb→le}
 use Rattle.circle.specs.Inside.Fixed.{Apart, IsHigh}
 use Rattle.circle.specs.Inside.Circle.{IsDoubled}
 
@@ -25,16 +23,6 @@ twice_le c s = elim (dec_le c s) [ yes y ↦ go c s (s - c) (omega arith) | no f
 -- a size whose square is small
 pub root_small : (c b m : ℕ) → c * c ≤ m → m < suc b * suc b → c ≤ b
 root_small c b m h k = elim (dec_le c b) [ yes y ↦ y | no f ↦ absurd (lt_irrefl m (lt_of_lt_of_le k (le_trans (mul-le-mul (lt_of_not-le f) (lt_of_not-le f)) h))) ]
-
-pub size_small : (c r : ℕ) → c * c + r ≤ 9 * 2 ^ 123 → c ≤ 5 * 2 ^ 61
-size_small c r h = root_small c (5 * 2 ^ 61) (9 * 2 ^ 123) (le_trans (go (c * c)) h) (leb→le (suc (9 * 2 ^ 123)) (suc (5 * 2 ^ 61) * suc (5 * 2 ^ 61)) tt)
-  where
-    go : (a : ℕ) → a ≤ a + r
-    go a = omega arith
-
--- twice the upper half of the product fits
-pub product_small : (c s h : ℕ) → c * c + s * s ≤ 9 * 2 ^ 123 → IsHigh c s h → 2 * h ≤ 9 * 2 ^ 60
-product_small c s h b i = le_of_mul-le-mul_right {k = 2 ^ 63} (le_trans (le_of_eq (mul_assoc 2 h (2 ^ 63))) (le_trans (mul-le-mul_left 2 i.low) (le_trans (twice_le c s) b))) (pow_pos 63)
 
 module _ (c s p q h : ℕ) (i : IsHigh c c p) (j : IsHigh s s q) (k : IsHigh c s h) (a b : ℕ) where
   doubled_low : 2 * h * 2 ^ 63 ≤ 2 * (c * s)

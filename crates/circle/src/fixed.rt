@@ -3,6 +3,7 @@ ghost use Rattle.std.specs.Prelude.{◌≡◌, ◌⊎◌, false, ◌+◌, ◌*�
 ghost use Rattle.std.specs.Float.Ieee.{le};
 ghost use Rattle.std.specs.Float.Ieee.Exact.{HasValue};
 ghost use Rattle.std.specs.Float.Ieee.Positive.{positive};
+ghost use Rattle.arith.specs.Inside.Scaled as Scaled;
 ghost use Rattle.circle.specs.Inside.Fixed.{IsUnpacked, IsHigh, IsDifference, Lies};
 ghost use Rattle.circle.specs.Inside.FixedValues.{unpacked, high, horner, parts, guarded, lowered, tested};
 ghost use Rattle.circle.specs.Inside.Horner.{IsHorner};
@@ -12,7 +13,7 @@ ghost use Rattle.circle.specs.Inside.Signed.{plus, less};
 pub fn unpack(x: f64) -> arith::Scaled
     requires { T (positive x) }
     ensures unpacked { IsUnpacked x result.m result.e }
-    ensures value { result ≡ unpacked x }
+    ensures value { Scaled.parts result.m result.e ≡ unpacked x }
 {
     arith::scale(f64::to_bits(x))
 }
@@ -30,7 +31,8 @@ pub fn high(a: u64, b: u64) -> u64
     2 * (a1 * b1) + ((a1 * b0) >> 31) + ((a0 * b1) >> 31)
 }
 
-// A step of Horner's rule: 1 - g * q / n, in units of 2^-63.
+// A step of Horner's rule: 1 - g * q / n, in units of 2^-63. g and q are at most 1, which the definitions
+// say of plain numbers: a type would be put on and taken off at each step.
 pub fn horner(g: u64, q: u64, n: u64) -> u64
     requires { (g ≤ 2 ^ 63) × (q ≤ 2 ^ 63) × (2 ≤ n) }
     ensures horner { IsHorner g q n result }
@@ -73,7 +75,8 @@ fn lowered(n: u64) -> f64
     parts(n - 1024)
 }
 
-// The guess, where it is within 2^-42 of n / 2^52, or of -n / 2^52 for a sign other than 0.
+// The guess, where it is within 2^-42 of n / 2^52, or of -n / 2^52 for a sign other than 0. The
+// definitions count signs as numbers.
 pub fn tested(guess: f64, sign: u64, n: u64) -> f64
     requires { n + 1024 < 2 ^ 53 }
     ensures lies { Lies result (plus sign n) (less sign n + 1024) (plus sign n + 1024) (less sign n) (2 ^ 52) }

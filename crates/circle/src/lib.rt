@@ -9,7 +9,8 @@ ghost use Rattle.circle.specs.Inside.Horner.{Alternating};
 ghost use Rattle.circle.specs.Inside.Circle.{IsCosineSum, IsDoubled, IsFirst, IsCircle};
 ghost use Rattle.circle.specs.Inside.CircleValues as CircleValues;
 
-// A cosine and a sine by their sizes, each with its sign: 1 where it is negative.
+// A cosine and a sine by their sizes, each with its sign: 1 where it is negative. The definitions add
+// the signs, so they are numbers.
 #[derive(Clone, Copy)]
 pub struct Pair {
     pub c: u64,
@@ -19,30 +20,35 @@ pub struct Pair {
 }
 
 // The cosine and the sine at twice the angle.
-fn doubled(c: u64, cn: u64, s: u64, sn: u64) -> Pair
-    requires { (c * c + s * s ≤ 9 * 2 ^ 123) × (cn ≤ 1) × (sn ≤ 1) }
-    ensures doubled { IsDoubled cn c sn s result.cn result.c result.sn result.s }
-    ensures value { result ≡ CircleValues.doubled c cn s sn }
+fn doubled(p: Pair) -> Pair
+    requires { (p.c * p.c + p.s * p.s ≤ 9 * 2 ^ 123) × (p.cn ≤ 1) × (p.sn ≤ 1) }
+    ensures doubled { IsDoubled p.cn p.c p.sn p.s result.cn result.c result.sn result.s }
+    ensures value { result ≡ CircleValues.doubled p }
 {
-    let cc = fixed::high(c, c);
-    let ss = fixed::high(s, s);
-    let cs = fixed::high(c, s);
+    let cc = fixed::high(p.c, p.c);
+    let ss = fixed::high(p.s, p.s);
+    let s = 2 * fixed::high(p.c, p.s);
+    let sn = (p.cn + p.sn) % 2;
     if cc < ss {
         Pair {
             c: ss - cc,
             cn: 1,
-            s: 2 * cs,
-            sn: (cn + sn) % 2,
+            s,
+            sn,
         }
     } else {
         Pair {
             c: cc - ss,
             cn: 0,
-            s: 2 * cs,
-            sn: (cn + sn) % 2,
+            s,
+            sn,
         }
     }
 }
+
+// This series and the next are written out: each step divides by a constant, and has a bound of its
+// own in the proof. q is at most 1 in units of 2^-63. It has no type for that: it is a plain number to
+// `horner` and `high`, as the sums and the sizes are.
 
 // The cosine of the root of q, up to 1/10, by its series to the 12th power.
 fn cosine_sum(q: u64) -> u64
@@ -71,26 +77,16 @@ fn sine_sum(q: u64) -> u64
     fixed::horner(g3, q, 6)
 }
 
-// A cosine and a sine that are not negative.
-#[derive(Clone, Copy)]
-struct Initial {
-    c: u64,
-    s: u64,
-}
-
-// The cosine and the sine of y / 2^63, which is at most 200 / 2048.
-fn first(y: u64) -> Initial
+// The cosine and the sine of y / 2^63, which is at most 200 / 2048: neither is negative.
+fn first(y: u64) -> Pair
     requires { y ≤ 200 * 2 ^ 52 }
     ensures first { IsFirst y result.c result.s }
     ensures value { result ≡ CircleValues.first y }
 {
     let q = fixed::high(y, y);
     let c = cosine_sum(q);
-    let g = sine_sum(q);
-    Initial {
-        c: c,
-        s: fixed::high(y, g),
-    }
+    let s = fixed::high(y, sine_sum(q));
+    Pair { c, cn: 0, s, sn: 0 }
 }
 
 // The cosine and the sine of y / 2^(63 - doublings).
@@ -100,24 +96,9 @@ pub fn circle(y: u64, doublings: u64) -> Pair
     ensures bounds { (result.c ≤ 9 * 2 ^ 60) × (result.s ≤ 9 * 2 ^ 60) }
     ensures value { result ≡ CircleValues.circle y doublings }
 {
-    let begin = first(y);
-    let mut c = begin.c;
-    let mut cn: u64 = 0;
-    let mut s = begin.s;
-    let mut sn: u64 = 0;
-    let mut j: u64 = 0;
-    while j < doublings {
-        let p = doubled(c, cn, s, sn);
-        c = p.c;
-        cn = p.cn;
-        s = p.s;
-        sn = p.sn;
-        j = j + 1;
+    let mut p = first(y);
+    for _ in 0..doublings {
+        p = doubled(p);
     }
-    Pair {
-        c: c,
-        cn: cn,
-        s: s,
-        sn: sn,
-    }
+    p
 }

@@ -3,7 +3,7 @@ use mathlib.Core.Path.{◌≡◌, refl, sym, ap, ◌∙◌, subst}
 use Prim.Native.Nat.{ℕ, zero, suc, ◌+◌, ◌*◌, ◌/◌, ◌^◌, ◌≤◌, ◌<◌}
 use native.Mathlib.Nat.{le_trans, le_of_eq, mul-le-mul, mul-le-mul_right, mul-le-mul_left, mul_assoc, mul_comm, mul_left_comm, mul-pos, le_of_mul-le-mul_right, pow-zero, pow-suc, two-pow-succ, one-mul}
 use native.Mathlib.Omega.{arith}
-use lib.Pow.{pow-add, pow_pos, pow_mono}
+use lib.Pow.{pow-add, pow_pos}
 use Rattle.logarithms.specs.Inside.Logarithm.{fine, BinaryLog}
 use Rattle.logarithms.proofs.Powers.{twice, power_pos}
 
@@ -149,12 +149,6 @@ square_in y l u = go (mul-le-mul l l) (mul-le-mul top top)
 
     go : 2 ^ 31 * 2 ^ 31 ≤ y * y → y * y ≤ 4294967295 * 4294967295 → (2 ^ 62 ≤ y * y) × (y * y < 2 ^ 64)
     go p q = (p, omega (arith, q))
-
-pub few : (k i : ℕ) → i ≤ 22 → k < 53 * 2 ^ i → k < 53 * 2 ^ 22
-few k i h u = go (2 ^ i) (pow_mono h) u
-  where
-    go : (w : ℕ) → w ≤ 2 ^ 22 → k < 53 * w → k < 53 * 2 ^ 22
-    go w p q = omega arith
 
 pub close_last : (m y k i : ℕ) → i ≡ 22 → Close m y k i → BinaryLog m k
 close_last m y k i e c = record {

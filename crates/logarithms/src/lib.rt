@@ -12,23 +12,20 @@ ghost use Rattle.logarithms.specs.Inside.Logarithm.{BinaryLog, TenLog};
 ghost use Rattle.logarithms.specs.Functions as Functions;
 ghost use Rattle.logarithms.specs.Inside.LogarithmValues.{binary_log, ten_log, parts, guess, tested_below, tested_above, log_above_zero};
 
-// The binary logarithm of m, in units of 2^-22 and cut to a whole number of them or one below that.
+// The binary logarithm of x's m, in units of 2^-22 and cut to a whole number of them or one below that.
 // y / 2^31 lies from 1 to 2. Each turn squares it, and where the square reaches 2 the next binary
 // digit of the logarithm is 1 and the square is halved.
-fn binary_log(m: u64) -> u64
-    requires { (2 ^ 52 ≤ m) × (m < 2 ^ 53) }
-    ensures binary_log { BinaryLog m result }
-    ensures value { result ≡ binary_log m }
+fn binary_log(x: arith::Scaled) -> u64
+    ensures binary_log { BinaryLog x.m result }
+    ensures value { result ≡ binary_log x.m }
 {
-    let mut y = m >> 21;
+    let mut y = x.m >> 21;
     let mut k: u64 = 52;
-    let mut i: u64 = 0;
-    while i < 22 {
+    for _ in 0..22u64 {
         let square = y * y;
         let digit = square >> 63;
         y = square >> (31 + digit);
         k = k + k + digit;
-        i = i + 1;
     }
     k
 }
@@ -51,17 +48,16 @@ fn parts(n: u32) -> f64
     n as f64 / 4194304.0
 }
 
-// A decimal logarithm of m * 2^(e - 2148). Nothing is proved of it; what it gives is tested.
+// A decimal logarithm of x. Nothing is proved of it; what it gives is tested.
 // The fraction f, from the root of 1/2 to that of 2, has the logarithm d - d^2/2 + s * (d^2/2 + r),
 // with d = f - 1, s = d / (2 + d) and r the series of log((1 + s) / (1 - s)) over s from its second
 // term on. The logarithm of 2 and the factor 1 / log 10 stand in two parts each: a multiple of the
 // first, of 41 digits, is exact, and so is the product of the second, of 26, with as many of d - d^2/2.
-fn guess(m: u64, e: u64) -> f64
-    requires { (m < 2 ^ 53) × (e < 2 ^ 53) }
-    ensures { result ≡ guess m e }
+fn guess(x: arith::Scaled) -> f64
+    ensures { result ≡ guess x.m x.e }
 {
-    let mut f = m as f64 / 4503599627370496.0;
-    let mut n = e as f64 - 2096.0;
+    let mut f = x.m as f64 / 4503599627370496.0;
+    let mut n = x.e as f64 - 2096.0;
     if 1.4142135623730951 < f {
         f = 0.5 * f;
         n = n + 1.0;
@@ -86,15 +82,8 @@ fn guess(m: u64, e: u64) -> f64
             + rest * 0.4342944771051407))
 }
 
-// n less 1, and 0 for 0.
-fn one_less(n: u64) -> u64
-    ensures { result ≡ n - 1 }
-{
-    if n == 0 {
-        return 0;
-    }
-    n - 1
-}
+// Two tests, since what a cut leaves open lies on one side: the bounds are n and n + 3 above zero, and
+// -(n + 3) and -(n - 1) below.
 
 // The guess, where it lies from -(n + 3) / 2^22 to -(n - 1) / 2^22.
 fn tested_below(guess: f64, n: u64) -> f64
@@ -102,7 +91,11 @@ fn tested_below(guess: f64, n: u64) -> f64
     ensures lies { Lies result 0 (n + 3) 0 (n - 1) (2 ^ 22) }
     ensures value { result ≡ tested_below guess n }
 {
-    circle::fixed::guarded(guess, -parts((n + 3) as u32), -parts(one_less(n) as u32))
+    circle::fixed::guarded(
+        guess,
+        -parts((n + 3) as u32),
+        -parts(n.saturating_sub(1) as u32),
+    )
 }
 
 // The guess, where it lies from n / 2^22 to (n + 3) / 2^22.
@@ -123,13 +116,11 @@ fn log_above_zero(x: f64) -> f64
     ensures value { result ≡ log_above_zero x }
 {
     let s = circle::fixed::unpack(x);
-    let m = s.m;
-    let e = s.e;
-    let t = e * 0x40_0000 + binary_log(m);
+    let t = s.e * 0x40_0000 + binary_log(s);
     if t < 9009364992 {
-        tested_below(guess(m, e), ten_log(9009364992 - t))
+        tested_below(guess(s), ten_log(9009364992 - t))
     } else {
-        tested_above(guess(m, e), ten_log(t - 9009364992))
+        tested_above(guess(s), ten_log(t - 9009364992))
     }
 }
 

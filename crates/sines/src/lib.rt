@@ -12,19 +12,6 @@ ghost use Rattle.sines.specs.Sine.{IsCosine, IsSine, is_tiny, Cosine, Sine};
 ghost use Rattle.sines.specs.Functions as Functions;
 ghost use Rattle.sines.specs.Inside.SineValues as SineValues;
 
-// x * 2^52, which is a whole number from 1 on.
-fn scaled(x: f64) -> u64
-    requires least { T (Ieee.le (fin false 1 (pos 0)) x) }
-    requires most { T (Ieee.le x (fin false 25 (pos 3))) }
-    ensures exact { (result ≤ 200 * 2 ^ 52) × (result * den x ≡ num x * 2 ^ 52) }
-    ensures value { result ≡ SineValues.scaled x }
-{
-    let s = circle::fixed::unpack(x);
-    let m = s.m;
-    let e = s.e;
-    m << (e - 2096)
-}
-
 // What is left of an angle after the nearest multiple of π/2, as a sum of two doubles, and how many
 // quarters of a turn that multiple is, up to whole turns.
 #[derive(Clone, Copy)]
@@ -49,15 +36,17 @@ fn reduced(x: f64, ahead: f64) -> Remainder
     let high = b + rest;
     Remainder {
         quarters: arith::to_bits(shifted + ahead) % 4,
-        high: high,
+        high,
         low: (b - high) + rest,
     }
 }
 
-// The sine of high + low, up to π/4, by its series to the 17th power.
-fn sine_series(high: f64, low: f64) -> f64
-    ensures { result ≡ SineValues.sine_series high low }
+// The sine of what is left, up to π/4, by its series to the 17th power.
+fn sine_series(r: Remainder) -> f64
+    ensures { result ≡ SineValues.sine_series r.high r.low }
 {
+    let high = r.high;
+    let low = r.low;
     let z = high * high;
     let w = z * z;
     let even = -1.0 / 6.0
@@ -67,11 +56,13 @@ fn sine_series(high: f64, low: f64) -> f64
     high + (high * z * (even + z * odd) + low * (1.0 - 0.5 * z))
 }
 
-// The cosine of high + low, up to π/4, by its series to the 16th power. What 1 - z/2 loses is added
+// The cosine of what is left, up to π/4, by its series to the 16th power. What 1 - z/2 loses is added
 // again.
-fn cosine_series(high: f64, low: f64) -> f64
-    ensures { result ≡ SineValues.cosine_series high low }
+fn cosine_series(r: Remainder) -> f64
+    ensures { result ≡ SineValues.cosine_series r.high r.low }
 {
+    let high = r.high;
+    let low = r.low;
     let z = high * high;
     let w = z * z;
     let even = 1.0 / 24.0
@@ -88,45 +79,52 @@ fn guess(x: f64, ahead: f64) -> f64
     ensures { result ≡ SineValues.guess x ahead }
 {
     let r = reduced(x, ahead);
-    let quarters = r.quarters;
-    let high = r.high;
-    let low = r.low;
-    if quarters == 0 {
-        return sine_series(high, low);
+    match r.quarters {
+        0 => sine_series(r),
+        1 => cosine_series(r),
+        2 => -sine_series(r),
+        _ => -cosine_series(r),
     }
-    if quarters == 1 {
-        return cosine_series(high, low);
-    }
-    if quarters == 2 {
-        return -sine_series(high, low);
-    }
-    -cosine_series(high, low)
 }
 
-// The cosine of x, from 1 to 200.
-fn far_cosine(x: f64) -> f64
-    requires least { T (Ieee.le (fin false 1 (pos 0)) x) }
-    requires most { T (Ieee.le x (fin false 25 (pos 3))) }
-    ensures cosine { IsCosine x result }
-    ensures value { result ≡ SineValues.far_cosine x }
-{
-    let p = circle::circle(scaled(x), 11);
-    let c = p.c;
-    let cn = p.cn;
-    circle::fixed::tested(guess(x, 1.0), cn, c >> 11)
+// The cosine and the sine stand beside each other from here on: they differ in their series and in
+// what their contracts say, and not in a type or a constant.
+
+// A double from 1 to 200.
+#[derive(Clone, Copy)]
+struct Far {
+    x: f64,
+    ghost least: { T (Ieee.le (fin false 1 (pos 0)) x) },
+    ghost most: { T (Ieee.le x (fin false 25 (pos 3))) },
 }
 
-// The sine of x, from 1 to 200.
-fn far_sine(x: f64) -> f64
-    requires least { T (Ieee.le (fin false 1 (pos 0)) x) }
-    requires most { T (Ieee.le x (fin false 25 (pos 3))) }
-    ensures sine { IsSine x result }
-    ensures value { result ≡ SineValues.far_sine x }
-{
-    let p = circle::circle(scaled(x), 11);
-    let s = p.s;
-    let sn = p.sn;
-    circle::fixed::tested(guess(x, 0.0), sn, s >> 11)
+impl Far {
+    // x * 2^52, which is a whole number.
+    fn scaled(self) -> u64
+        ensures exact { (result ≤ 200 * 2 ^ 52) × (result * den self.x ≡ num self.x * 2 ^ 52) }
+        ensures value { result ≡ SineValues.scaled self.x }
+    {
+        let s = circle::fixed::unpack(self.x);
+        s.m << (s.e - 2096)
+    }
+
+    // The cosine: the guess, where the doubled angle proves it.
+    fn cosine(self) -> f64
+        ensures cosine { IsCosine self.x result }
+        ensures value { result ≡ SineValues.far_cosine self.x }
+    {
+        let p = circle::circle(self.scaled(), 11);
+        circle::fixed::tested(guess(self.x, 1.0), p.cn, p.c >> 11)
+    }
+
+    // The sine: likewise.
+    fn sine(self) -> f64
+        ensures sine { IsSine self.x result }
+        ensures value { result ≡ SineValues.far_sine self.x }
+    {
+        let p = circle::circle(self.scaled(), 11);
+        circle::fixed::tested(guess(self.x, 0.0), p.sn, p.s >> 11)
+    }
 }
 
 // The cosine of x, from 0 to 200.
@@ -141,9 +139,9 @@ fn ranged_cosine(x: f64) -> f64
         return 1.0;
     }
     if x < 1.0 {
-        return small::low_cosine(x, guess(x, 1.0));
+        return small::Small { x }.cosine(guess(x, 1.0));
     }
-    far_cosine(x)
+    Far { x }.cosine()
 }
 
 // The sine of x, from 0 to 200.
@@ -158,9 +156,9 @@ fn ranged_sine(x: f64) -> f64
         return x;
     }
     if x < 1.0 {
-        return small::low_sine(x, guess(x, 0.0));
+        return small::Small { x }.sine(guess(x, 0.0));
     }
-    far_sine(x)
+    Far { x }.sine()
 }
 
 // The cosine of x, from 0 to 200: 1 below 2^-27. NaN outside.
@@ -168,12 +166,8 @@ pub fn cosine(x: f64) -> f64
     ensures cosine { Cosine x result }
     ensures value { result ≡ Functions.cosine x }
 {
-    if 0.0 <= x {
-        if x <= 200.0 {
-            ranged_cosine(x)
-        } else {
-            0.0 / 0.0
-        }
+    if 0.0 <= x && x <= 200.0 {
+        ranged_cosine(x)
     } else {
         0.0 / 0.0
     }
@@ -184,12 +178,8 @@ pub fn sine(x: f64) -> f64
     ensures sine { Sine x result }
     ensures value { result ≡ Functions.sine x }
 {
-    if 0.0 <= x {
-        if x <= 200.0 {
-            ranged_sine(x)
-        } else {
-            0.0 / 0.0
-        }
+    if 0.0 <= x && x <= 200.0 {
+        ranged_sine(x)
     } else {
         0.0 / 0.0
     }

@@ -15,33 +15,23 @@ ghost use Rattle.sines.specs.Inside.SmallValues as SmallValues;
 struct Fraction {
     m: u64,
     k: u64,
+    ghost shift: { k ≤ 26 },
 }
 
-// x, from 2^-27 to 1, with an m of 63 binary digits.
-fn split(x: f64) -> Fraction
-    requires least { T (Ieee.le (Ieee.of_bits binary64 0x3e40_0000_0000_0000) x) }
-    requires most { T (Ieee.lt x (fin false 1 (pos 0))) }
-    ensures split { IsSplit (num x) (den x) result.m result.k }
-    ensures value { result ≡ SmallValues.split x }
-{
-    let s = circle::fixed::unpack(x);
-    let m = s.m;
-    let e = s.e;
-    Fraction {
-        m: m << 10,
-        k: 2095 - e,
+impl Fraction {
+    // Its square, in units of 2^-63.
+    fn square(self) -> u64
+        requires { self.m < 2 ^ 63 }
+        ensures square { IsSquare self.m self.k result }
+        ensures value { result ≡ SmallValues.own_square self.m self.k }
+    {
+        let y = self.m >> self.k;
+        circle::fixed::high(y, y)
     }
 }
 
-// The square of m / 2^(63 + k), in units of 2^-63.
-fn own_square(m: u64, k: u64) -> u64
-    requires { (m < 2 ^ 63) × (k ≤ 26) }
-    ensures square { IsSquare m k result }
-    ensures value { result ≡ SmallValues.own_square m k }
-{
-    let y = m >> k;
-    circle::fixed::high(y, y)
-}
+// This series and the next are written out: each step divides by a constant, and has a bound of its
+// own in the proof.
 
 // The cosine of the root of q, in units of 2^-63, by its series to the 20th power.
 fn even_sum(q: u64) -> u64
@@ -89,61 +79,54 @@ fn placed(m: u64, k: u64) -> f64
     circle::fixed::parts(m) / ((one << (k + 1)) as f64)
 }
 
-// n less 1024, or 0.
-fn lower(n: u64) -> u64
-    ensures { result ≡ n - 1024 }
-{
-    if n < 1024 {
-        return 0;
-    }
-    n - 1024
-}
-
-// n with 1024 more, or the largest number of 53 binary digits.
-fn upper(n: u64) -> u64
-    requires { n < 2 ^ 53 }
-    ensures near { (n ≤ result) × (result ≤ n + 1024) × (result < 2 ^ 53) }
-    ensures value { result ≡ SmallValues.upper n }
-{
-    if n < 0x1f_ffff_ffff_fc00 {
-        return n + 1024;
-    }
-    0x1f_ffff_ffff_ffff
-}
-
 // The guess, where it lies from n - 1024 to n + 1024 in units of 2^-(53 + k).
 fn tested_share(guess: f64, n: u64, k: u64) -> f64
     requires { (n < 2 ^ 53) × (k ≤ 26) }
     ensures lies { Lies result (n - 1024) 0 (n + 1024) 0 (2 ^ 52 * 2 ^ (k + 1)) }
     ensures value { result ≡ SmallValues.tested_share guess n k }
 {
-    circle::fixed::guarded(guess, placed(lower(n), k), placed(upper(n), k))
+    let low = n.saturating_sub(1024);
+    let up = (n + 1024).min(0x1f_ffff_ffff_ffff);
+    circle::fixed::guarded(guess, placed(low, k), placed(up, k))
 }
 
-// The sine of x, from 2^-27 to 1: the guess, where the series proves it.
-pub fn low_sine(x: f64, guess: f64) -> f64
-    requires least { T (Ieee.le (Ieee.of_bits binary64 0x3e40_0000_0000_0000) x) }
-    requires most { T (Ieee.lt x (fin false 1 (pos 0))) }
-    ensures sine { IsSine x result }
-    ensures value { result ≡ SmallValues.low_sine x guess }
-{
-    let p = split(x);
-    let m = p.m;
-    let k = p.k;
-    let g = odd_sum(own_square(m, k));
-    tested_share(guess, (circle::fixed::high(m, g) + 512) >> 10, k)
+// A double from 2^-27 to 1.
+#[derive(Clone, Copy)]
+pub struct Small {
+    pub x: f64,
+    pub ghost least: { T (Ieee.le (Ieee.of_bits binary64 0x3e40_0000_0000_0000) x) },
+    pub ghost below_one: { T (Ieee.lt x (fin false 1 (pos 0))) },
 }
 
-// The cosine of x, from 2^-27 to 1: the guess, where the series proves it.
-pub fn low_cosine(x: f64, guess: f64) -> f64
-    requires least { T (Ieee.le (Ieee.of_bits binary64 0x3e40_0000_0000_0000) x) }
-    requires most { T (Ieee.lt x (fin false 1 (pos 0))) }
-    ensures cosine { IsCosine x result }
-    ensures value { result ≡ SmallValues.low_cosine x guess }
-{
-    let p = split(x);
-    let m = p.m;
-    let k = p.k;
-    let g = even_sum(own_square(m, k));
-    circle::fixed::tested(guess, 0, (g + 1024) >> 11)
+impl Small {
+    // x with an m of 63 binary digits.
+    fn split(self) -> Fraction
+        ensures split { IsSplit (num self.x) (den self.x) result.m result.k }
+        ensures value { SmallValues.share result.m result.k ≡ SmallValues.split self.x }
+    {
+        let s = circle::fixed::unpack(self.x);
+        Fraction {
+            m: s.m << 10,
+            k: 2095 - s.e,
+        }
+    }
+
+    // The sine: the guess, where the series proves it.
+    pub fn sine(self, guess: f64) -> f64
+        ensures sine { IsSine self.x result }
+        ensures value { result ≡ SmallValues.low_sine self.x guess }
+    {
+        let p = self.split();
+        let g = odd_sum(p.square());
+        tested_share(guess, (circle::fixed::high(p.m, g) + 512) >> 10, p.k)
+    }
+
+    // The cosine: the guess, where the series proves it.
+    pub fn cosine(self, guess: f64) -> f64
+        ensures cosine { IsCosine self.x result }
+        ensures value { result ≡ SmallValues.low_cosine self.x guess }
+    {
+        let g = even_sum(self.split().square());
+        circle::fixed::tested(guess, 0, (g + 1024) >> 11)
+    }
 }

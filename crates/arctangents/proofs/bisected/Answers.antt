@@ -1,6 +1,6 @@
 -- `arctangents::bisected` meets its contract. Assumes nothing.
 use mathlib.Core.Path.{refl, sym, ap, ◌∙◌}
-use Prim.Native.Nat.{ℕ, ◌+◌, ◌-◌, ◌^◌, ◌≤◌, ◌<◌}
+use Prim.Native.Nat.{ℕ, ◌-◌, ◌^◌, ◌≤◌, ◌<◌}
 use native.Mathlib.Nat.{le_refl, lt_irrefl}
 use native.Mathlib.Omega.{arith}
 use lib.Dec.{leb→le}
@@ -10,12 +10,9 @@ use Rattle.arctangents.proofs.Upto.{two_above}
 use Rattle.arctangents.proofs.Turns.{turn, last}
 use Rattle.arctangents.proofs.bisected.Goals as goal
 
-sum_fits : (l u : ℕ) → l < u → u ≤ 2 ^ 59 → l + 0x3ffc0 < 2 ^ 64
-sum_fits l u h k = omega arith
-
-pub loop-low-init : goal.loop-low-init
+pub loop-b-init : goal.loop-b-init
 unfolding bisected
-loop-low-init c = record {
+loop-b-init c = record {
   order = leb→le 1 (2 ^ 59) tt;
   upto = le_refl (2 ^ 59);
   bounds = record { from_below = λ a b v h. absurd (lt_irrefl 0 h); from_above = λ a b v n l. two_above a b n l };
@@ -24,30 +21,18 @@ loop-low-init c = record {
   rest = refl;
 }
 
-pub overflow_add-low : goal.overflow_add-low
-overflow_add-low c = record { fits = sum_fits c.loop-low.low c.loop-low.up c.loop-low.invariant.order c.loop-low.invariant.upto }
-
-pub halved-r-requires : goal.halved-r-requires
-halved-r-requires c =
-    let l = c.loop-low in
-    let b = c.before in
-    (c.loop-low-test.true, l.invariant.upto, b.requires.0, b.requires.1, l.invariant.bounds)
-
-pub loop-low-smaller : goal.loop-low-smaller
-loop-low-smaller c = c.halved-r.ensures.halved.closer
-
-pub loop-low-preserved : goal.loop-low-preserved
-loop-low-preserved c =
-    let l = c.loop-low in
+pub loop-b-preserved : goal.loop-b-preserved
+loop-b-preserved c =
+    let l = c.loop-b in
     let a = c.args in
-    let h = c.halved-r.ensures.halved in
+    let h = c.halved-b.ensures.halved in
     record {
       order = h.order;
       upto = h.upto;
       bounds = h.bounds;
       left = l.invariant.left - 1;
-      enough = fewer (l.up - l.low) (c.halved-r.result.up - c.halved-r.result.low) l.invariant.left h.closer l.invariant.enough;
-      rest = ap (λ (b : Bracket). bisected_from a.m a.e (l.invariant.left - 1) b.low b.up) c.halved-r.ensures.value ∙ sym (turn a.m a.e l.invariant.left l.low l.up c.loop-low-test.true l.invariant.enough) ∙ l.invariant.rest;
+      enough = fewer (l.b.up - l.b.low) (c.halved-b.result.up - c.halved-b.result.low) l.invariant.left h.closer l.invariant.enough;
+      rest = ap (λ (b : Bracket). bisected_from a.x.m a.x.e (l.invariant.left - 1) b.low b.up) c.halved-b.ensures.value ∙ sym (turn a.x.m a.x.e l.invariant.left l.b.low l.b.up c.loop-b-test.true l.invariant.enough) ∙ l.invariant.rest;
     }
   where
     fewer : (w w' left : ℕ) → w' < w → w ≤ left → w' ≤ left - 1
@@ -55,6 +40,6 @@ loop-low-preserved c =
 
 pub returns : goal.returns
 returns c =
-    let l = c.loop-low in
+    let l = c.loop-b in
     let a = c.args in
-    record { found = record { up = l.up; order = l.invariant.order; near = c.loop-low-test.false; upto = l.invariant.upto; bounds = l.invariant.bounds }; value = sym (last a.m a.e l.invariant.left l.low l.up c.loop-low-test.false) ∙ l.invariant.rest }
+    record { found = record { up = l.b.up; order = l.invariant.order; near = c.loop-b-test.false; upto = l.invariant.upto; bounds = l.invariant.bounds }; value = sym (last a.x.m a.x.e l.invariant.left l.b.low l.b.up c.loop-b-test.false) ∙ l.invariant.rest }

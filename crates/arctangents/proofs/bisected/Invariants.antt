@@ -14,8 +14,8 @@ pub record Holds (m e low up : ℕ) : Type 0 where
   pub enough : up - low ≤ left
   pub rest : bisected_from m e left low up ≡ bisected m e
 
-abbrev pub invariant-loop-low : goal.invariant-loop-low
-invariant-loop-low l = Holds l.m l.e l.low l.up
+abbrev pub invariant-loop-b : goal.invariant-loop-b
+invariant-loop-b l = Holds l.x.m l.x.e l.b.low l.b.up
 
-abbrev pub decreases-loop-low : goal.decreases-loop-low
-decreases-loop-low l = l.up - l.low
+abbrev pub decreases-loop-b : goal.decreases-loop-b
+decreases-loop-b l = l.b.up - l.b.low

@@ -1,8 +1,6 @@
 -- `arctangents::halved` meets its contract. Assumes nothing.
-use Prim.Native.Nat.{ℕ, ◌+◌, ◌-◌, ◌*◌, ◌/◌, ◌^◌, ◌≤◌, ◌<◌}
-use native.Mathlib.Nat.{le_trans}
+use Prim.Native.Nat.{ℕ, ◌+◌, ◌-◌, ◌/◌, ◌^◌, ◌≤◌, ◌<◌}
 use native.Mathlib.Omega.{arith}
-use lib.Dec.{leb→le}
 use Rattle.arctangents.specs.Inside.ArctangentValues as ArctangentValues
 use Rattle.arctangents.proofs.Sides.{stated, above_is, below_is}
 use Rattle.arctangents.proofs.Upto.{good_of}
@@ -19,24 +17,6 @@ record Middle (low up mid : ℕ) : Type 0 where
 middle : (low up : ℕ) → low + 0x3ffc0 < up → up ≤ 2 ^ 59 → Middle low up (low + (up - low) / 2)
 middle low up h k = record { over = omega arith; under = omega arith; most = omega arith; most_too = omega arith }
 
-in_range : (y : ℕ) → y ≤ 2 ^ 59 → y ≤ 200 * 2 ^ 52
-in_range y h = le_trans h (leb→le (2 ^ 59) (200 * 2 ^ 52) tt)
-
-five : 5 ≤ 11
-five = leb→le 5 11 tt
-
-few : 5 ≤ 10
-few = leb→le 5 10 tt
-
-word : (y : ℕ) → y ≤ 2 ^ 59 → y < 2 ^ 64
-word y h = omega arith
-
-below_it : (low up : ℕ) → low + 0x3ffc0 < up → low ≤ up
-below_it low up h = omega arith
-
-mid_of : (c : Start) → Middle c.args.low c.args.up (c.args.low + (c.args.up - c.args.low) / 2)
-mid_of c = middle c.args.low c.args.up c.requires.0 c.requires.1
-
 closer_up : (low up mid : ℕ) → Middle low up mid → mid - low < up - low
 closer_up low up mid m = omega (arith, m.over, m.under)
 
@@ -52,91 +32,58 @@ over_far low up mid m = omega (arith, m.over, m.under)
 under_up : (low up mid : ℕ) → Middle low up mid → mid < up
 under_up low up mid m = omega (arith, m.over, m.under)
 
-pub overflow_sub-mid : goal.overflow_sub-mid
-overflow_sub-mid c = below_it c.args.low c.args.up c.requires.0
-
-pub overflow_add-mid : goal.overflow_add-mid
-overflow_add-mid c = record { fits = word (c.args.low + (c.args.up - c.args.low) / 2) (mid_of c).most }
-
-pub circle-p-requires : goal.circle-p-requires
-circle-p-requires c = (in_range (c.args.low + (c.args.up - c.args.low) / 2) (mid_of c).most, five)
-
-pub above-requires : goal.above-requires
-above-requires c = (c.requires.2, c.requires.3)
-
 pub returns-then-above : goal.returns-then-above
 unfolding ArctangentValues.halved
 returns-then-above c =
     let a = c.args in
-    let mid = a.low + (a.up - a.low) / 2 in
-    let i = middle a.low a.up c.requires.0 c.requires.1 in
+    let mid = a.b.low + (a.b.up - a.b.low) / 2 in
+    let i = middle a.b.low a.b.up c.requires.0 c.requires.1 in
     let p = c.circle-p in record {
       halved = record {
         order = i.over;
         upto = i.most;
-        closer = closer_up a.low a.up mid i;
+        closer = closer_up a.b.low a.b.up mid i;
         bounds = record {
-          from_below = c.requires.4.from_below;
-          from_above = above_is mid p.result.cn p.result.c p.result.sn p.result.s a.m a.e (stated mid p.result.cn p.result.c p.result.sn p.result.s i.most p.ensures.circle) (c.above.ensures.above c.if-above.true);
+          from_below = c.requires.2.from_below;
+          from_above = above_is mid p.result.cn p.result.c p.result.sn p.result.s a.x.m a.x.e (stated mid p.result.cn p.result.c p.result.sn p.result.s i.most p.ensures.circle) (c.above.ensures.above c.if-above.true);
         };
       };
       value = rw (← c.circle-p.ensures.value, ← c.above.ensures.value, c.if-above.true);
     }
 
-pub below-requires : goal.below-requires
-below-requires c = (c.requires.2, c.requires.3)
-
 pub returns-then-below : goal.returns-then-below
 unfolding ArctangentValues.halved
 returns-then-below c =
     let a = c.args in
-    let mid = a.low + (a.up - a.low) / 2 in
-    let i = middle a.low a.up c.requires.0 c.requires.1 in
+    let mid = a.b.low + (a.b.up - a.b.low) / 2 in
+    let i = middle a.b.low a.b.up c.requires.0 c.requires.1 in
     let p = c.circle-p in record {
       halved = record {
-        order = under_up a.low a.up mid i;
+        order = under_up a.b.low a.b.up mid i;
         upto = c.requires.1;
-        closer = closer_low a.low a.up mid i;
+        closer = closer_low a.b.low a.b.up mid i;
         bounds = record {
-          from_below = λ x y v h. below_is mid p.result.cn p.result.c p.result.sn p.result.s a.m a.e (stated mid p.result.cn p.result.c p.result.sn p.result.s i.most p.ensures.circle) (c.below.ensures.below c.if-below.true) x y v;
-          from_above = c.requires.4.from_above;
+          from_below = λ x y v h. below_is mid p.result.cn p.result.c p.result.sn p.result.s a.x.m a.x.e (stated mid p.result.cn p.result.c p.result.sn p.result.s i.most p.ensures.circle) (c.below.ensures.below c.if-below.true) x y v;
+          from_above = c.requires.2.from_above;
         };
       };
       value = rw (← c.circle-p.ensures.value, ← c.above.ensures.value, c.if-above.false, ← c.below.ensures.value, c.if-below.true);
     }
 
-pub overflow_add-mid-2 : goal.overflow_add-mid-2
-overflow_add-mid-2 c =
-    let a = c.args in
-    record { fits = word (a.low + (a.up - a.low) / 2 + 2 ^ 16) (middle a.low a.up c.requires.0 c.requires.1).most_too }
-
-pub circle-q-requires : goal.circle-q-requires
-circle-q-requires c =
-    let a = c.args in
-    (in_range (a.low + (a.up - a.low) / 2 + 2 ^ 16) (middle a.low a.up c.requires.0 c.requires.1).most_too, five)
-
-pub above-requires-2 : goal.above-requires-2
-above-requires-2 c = (c.requires.2, c.requires.3)
-
-pub overflow_add-result : goal.overflow_add-result
-overflow_add-result c =
-    let a = c.args in
-    record { fits = word (a.low + (a.up - a.low) / 2 + 2 ^ 16) (middle a.low a.up c.requires.0 c.requires.1).most_too }
-
 pub returns-then-above-2 : goal.returns-then-above-2
 unfolding ArctangentValues.halved
 returns-then-above-2 c =
     let a = c.args in
-    let mid = a.low + (a.up - a.low) / 2 in
-    let i = middle a.low a.up c.requires.0 c.requires.1 in
+    let mid = a.b.low + (a.b.up - a.b.low) / 2 in
+    let i = middle a.b.low a.b.up c.requires.0 c.requires.1 in
     let q = c.circle-q in record {
       halved = record {
-        order = over_far a.low a.up mid i;
+        order = over_far a.b.low a.b.up mid i;
         upto = i.most_too;
-        closer = closer_far a.low a.up mid i;
+        closer = closer_far a.b.low a.b.up mid i;
         bounds = record {
-          from_below = c.requires.4.from_below;
-          from_above = above_is (mid + 2 ^ 16) q.result.cn q.result.c q.result.sn q.result.s a.m a.e (stated (mid + 2 ^ 16) q.result.cn q.result.c q.result.sn q.result.s i.most_too q.ensures.circle) (c.above-2.ensures.above c.if-above-2.true);
+          from_below = c.requires.2.from_below;
+          from_above = above_is (mid + 2 ^ 16) q.result.cn q.result.c q.result.sn q.result.s a.x.m a.x.e (stated (mid + 2 ^ 16) q.result.cn q.result.c q.result.sn q.result.s i.most_too q.ensures.circle) (c.above-2.ensures.above c.if-above-2.true);
         };
       };
       value = rw (← c.circle-p.ensures.value, ← c.above.ensures.value, c.if-above.false, ← c.below.ensures.value, c.if-below.false, ← c.circle-q.ensures.value, ← c.above-2.ensures.value, c.if-above-2.true);
@@ -146,8 +93,8 @@ returns-then-above-2 c =
 pub returns : goal.returns
 returns c =
     let a = c.args in
-    let mid = a.low + (a.up - a.low) / 2 in
-    let i = middle a.low a.up c.requires.0 c.requires.1 in
+    let mid = a.b.low + (a.b.up - a.b.low) / 2 in
+    let i = middle a.b.low a.b.up c.requires.0 c.requires.1 in
     let p = c.circle-p in
     let q = c.circle-q in
     let r = p.result in
@@ -155,7 +102,7 @@ returns c =
     let g = good_of mid r.cn r.c r.sn r.s i.most p.ensures.circle p.ensures.bounds.0 p.ensures.bounds.1 in
     let g' = good_of (mid + 2 ^ 16) w.cn w.c w.sn w.s i.most_too q.ensures.circle q.ensures.bounds.0 q.ensures.bounds.1 in
     absurd
-    (distinct mid r.cn r.c r.sn r.s w.cn w.c w.sn w.s a.m a.e i.most_too p.ensures.circle q.ensures.circle g
+    (distinct mid r.cn r.c r.sn r.s w.cn w.c w.sn w.s a.x.m a.x.e i.most_too p.ensures.circle q.ensures.circle g
     (c.above-2.ensures.nearly_below c.if-above-2.false g')
     (c.below.ensures.nearly_above c.if-below.false g)
     (c.above.ensures.nearly_below c.if-above.false g))

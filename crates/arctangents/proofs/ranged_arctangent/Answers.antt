@@ -3,17 +3,13 @@ use mathlib.Core.Path.{sym, ap, ◌∙◌, subst}
 use Prim.Native.Nat.{ℕ, ◌+◌, ◌*◌, ◌^◌, ◌≤◌, zero-le}
 use native.Mathlib.Nat.{le_trans, le_of_eq, zero-mul, lt_irrefl}
 use native.Mathlib.Omega.{arith}
-use lib.Dec.{T, leb→le}
+use lib.Dec.{leb→le}
 use lib.Ieee.{of_bits}
 use lib.Ieee.Positive.{num, den}
 use Rattle.arctangents.specs.Arctangent.{NotBelow}
 use Rattle.arctangents.specs.Inside.ArctangentValues as ArctangentValues
 use Rattle.arctangents.proofs.Range.{is_zero, whole_zero, zero_is}
 use Rattle.arctangents.proofs.ranged_arctangent.Goals as goal
-
-pub arctangent_above_zero-requires : goal.arctangent_above_zero-requires
-unfolding of_bits
-arctangent_above_zero-requires c = record { above_zero = subst T (sym c.if-x.true) tt; finite = c.requires.finite }
 
 pub returns-then-x : goal.returns-then-x
 unfolding ArctangentValues.ranged_arctangent

@@ -29,9 +29,6 @@ unfolding ArctangentValues.reaches
 returns-then-i-j c =
     let a = c.args in record { sure = λ t. reach_up a.p a.q a.i a.j 63 c.if-i-j.true (far (a.j - a.i) c.if-d-lt64.false) (ltb-true (a.p / 2 ^ 63) a.q t); unsure = λ t h. unreached_small a.p a.q a.i a.j (p_word c) (ltb-false (a.p / 2 ^ 63) a.q t); value = rw (le-leb _ _ c.if-i-j.true, le-ltb _ _ c.if-d-lt64.false) }
 
-pub overflow_sub-d-2 : goal.overflow_sub-d-2
-overflow_sub-d-2 c = le_of_lt c.if-i-j.false
-
 pub returns-then-d-lt64-2 : goal.returns-then-d-lt64-2
 unfolding ArctangentValues.reaches
 returns-then-d-lt64-2 c =

@@ -99,7 +99,7 @@ module _ (a : ℕ) (some : 0 < a) where
           drop p e = omega arith
 
 -- ---- in units: a is the number whose root has r for the nearest whole number, and a * 4 ^ k is the radicand
-module _ (a r k m j : ℕ) (lo : 2 ^ 104 ≤ a) (least : 2 ^ 52 ≤ r) (few : m < 2 ^ 53) (up_to_lem : 4 * a < (2 * r + 1) * (2 * r + 1)) (down_to : (p : ℕ) → r ≡ suc p → (2 * p + 1) * (2 * p + 1) < 4 * a) where
+module _ (a r k m j : ℕ) (lo : 2 ^ 104 ≤ a) (least : 2 ^ 52 ≤ r) (few : m < 2 ^ 53) (up_to_h : 4 * a < (2 * r + 1) * (2 * r + 1)) (down_to : (p : ℕ) → r ≡ suc p → (2 * p + 1) * (2 * p + 1) < 4 * a) where
   squared : (x : ℕ) → x * 2 ^ k * (x * 2 ^ k) ≡ x * x * 4 ^ k
   squared x = mul-mul-mul_comm x (2 ^ k) x (2 ^ k) ∙ ap (λ (y : ℕ). x * x * y) (sym (four_squares k))
 
@@ -108,7 +108,7 @@ module _ (a r k m j : ℕ) (lo : 2 ^ 104 ≤ a) (least : 2 ^ 52 ≤ r) (few : m 
 
   above : r * 2 ^ k < m * 2 ^ j → 4 * (a * 4 ^ k) < (r * 2 ^ k + m * 2 ^ j) * (r * 2 ^ k + m * 2 ^ j)
   above h =
-      lt_of_lt_of_le (subst (λ (x : ℕ). x < (2 * r + 1) * (2 * r + 1) * 4 ^ k) (mul_assoc 4 a (4 ^ k)) (mul-lt-mul_of_pos_right up_to_lem four_pos))
+      lt_of_lt_of_le (subst (λ (x : ℕ). x < (2 * r + 1) * (2 * r + 1) * 4 ^ k) (mul_assoc 4 a (4 ^ k)) (mul-lt-mul_of_pos_right up_to_h four_pos))
       (le_trans (le_of_eq (sym (squared (2 * r + 1)))) (mul-le-mul wide wide))
     where
       wide : (2 * r + 1) * 2 ^ k ≤ r * 2 ^ k + m * 2 ^ j

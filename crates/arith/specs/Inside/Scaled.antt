@@ -3,7 +3,6 @@ use Rattle.std.specs.Prelude.{ℕ, ◌+◌, ◌-◌, ◌*◌, ◌/◌, ◌%◌, 
 use Rattle.std.specs.Int.Count.{count_leading_zeros}
 use Rattle.std.specs.Float.Ieee.Exact.{HasValue}
 use Rattle.arith.specs.Double.{bits}
-use Rattle.arith.specs.declared.root.Scaled.{Scaled}
 
 -- The double with these bits is m * 2 ^ e / 2 ^ 2148, and m has 53 binary digits.
 pub record IsScaled (b m e : ℕ) : Type 0 where
@@ -13,8 +12,15 @@ pub record IsScaled (b m e : ℕ) : Type 0 where
   pub upto : e ≤ 3119
   pub value : HasValue (bits b) false (m * 2 ^ e) (2 ^ 1074 * 2 ^ 1074)
 
+pub record Parts : Type 0 where
+  pub m : ℕ
+  pub e : ℕ
+
+abbrev pub parts : ℕ → ℕ → Parts
+parts m e = record { m = m; e = e }
+
 -- That m and that e, for bits below those of the infinity. The digits of a number with a field of zeros are moved up to 53.
-unfoldable pub scaled : ℕ → Scaled
+unfoldable pub scaled : ℕ → Parts
 scaled b =
     let field = b / 2 ^ 52 in
     let digits = b % 2 ^ 52 in

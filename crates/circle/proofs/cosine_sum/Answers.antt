@@ -1,7 +1,7 @@
 -- `circle::cosine_sum` meets its contract. Assumes nothing.
 use mathlib.Core.Path.{refl}
 use Prim.Native.Nat.{◌*◌, ◌^◌}
-use native.Mathlib.Nat.{zero-lt-suc, le_refl}
+use native.Mathlib.Nat.{zero-lt-suc}
 use lib.Dec.{leb→le}
 use Rattle.circle.specs.Inside.Horner.{Alternating}
 use Rattle.circle.specs.Inside.CircleValues as CircleValues
@@ -27,24 +27,6 @@ at_2 c = step 10 c.args.q 2 10 4 4628 8 c.horner-g4.result c.horner-g2.result 12
 
 at_0 : (c : After-horner) → Alternating 10 c.args.q 0 7 12 c.horner.result
 at_0 c = step 10 c.args.q 0 7 1 10 10 c.horner-g2.result c.horner.result 2 (at_2 c.before) c.horner.ensures.horner refl (leb→le 2 2 tt) refl (leb→le 10 (2 * (10 * 10) * 1) tt)
-
-pub horner-g10-requires : goal.horner-g10-requires
-horner-g10-requires c = (le_refl (2 ^ 63), c.requires, leb→le 2 132 tt)
-
-pub horner-g8-requires : goal.horner-g8-requires
-horner-g8-requires c = ((at_10 c).most, c.requires, leb→le 2 90 tt)
-
-pub horner-g6-requires : goal.horner-g6-requires
-horner-g6-requires c = ((at_8 c).most, c.requires, leb→le 2 56 tt)
-
-pub horner-g4-requires : goal.horner-g4-requires
-horner-g4-requires c = ((at_6 c).most, c.requires, leb→le 2 30 tt)
-
-pub horner-g2-requires : goal.horner-g2-requires
-horner-g2-requires c = ((at_4 c).most, c.requires, leb→le 2 12 tt)
-
-pub horner-requires : goal.horner-requires
-horner-requires c = ((at_2 c).most, c.requires, leb→le 2 2 tt)
 
 pub returns : goal.returns
 unfolding CircleValues.cosine_sum

@@ -1,7 +1,7 @@
 -- `circle::sine_sum` meets its contract. Assumes nothing.
 use mathlib.Core.Path.{refl}
 use Prim.Native.Nat.{◌*◌, ◌^◌}
-use native.Mathlib.Nat.{zero-lt-suc, le_refl}
+use native.Mathlib.Nat.{zero-lt-suc}
 use lib.Dec.{leb→le}
 use Rattle.circle.specs.Inside.Horner.{Alternating}
 use Rattle.circle.specs.Inside.CircleValues as CircleValues
@@ -23,21 +23,6 @@ at_3 c = step 10 c.args.q 3 13870 13864 27727796 6 c.horner-g5.result c.horner-g
 
 at_1 : (c : After-horner) → Alternating 10 c.args.q 1 30 10 c.horner.result
 at_1 c = step 10 c.args.q 1 30 24 13870 8 c.horner-g3.result c.horner.result 6 (at_3 c.before) c.horner.ensures.horner refl (leb→le 2 6 tt) refl (leb→le 13870 (6 * (10 * 10) * 24) tt)
-
-pub horner-g9-requires : goal.horner-g9-requires
-horner-g9-requires c = (le_refl (2 ^ 63), c.requires, leb→le 2 110 tt)
-
-pub horner-g7-requires : goal.horner-g7-requires
-horner-g7-requires c = ((at_9 c).most, c.requires, leb→le 2 72 tt)
-
-pub horner-g5-requires : goal.horner-g5-requires
-horner-g5-requires c = ((at_7 c).most, c.requires, leb→le 2 42 tt)
-
-pub horner-g3-requires : goal.horner-g3-requires
-horner-g3-requires c = ((at_5 c).most, c.requires, leb→le 2 20 tt)
-
-pub horner-requires : goal.horner-requires
-horner-requires c = ((at_3 c).most, c.requires, leb→le 2 6 tt)
 
 pub returns : goal.returns
 unfolding CircleValues.sine_sum

@@ -1,15 +1,14 @@
 -- What the functions of `circle` give, bit for bit. Definitions only.
 use Rattle.std.specs.Prelude.{ℕ, zero, suc, ◌+◌, ◌-◌, ◌*◌, ◌%◌, ◌^◌, cond, ltb}
 use Rattle.circle.specs.declared.Pair.{Pair}
-use Rattle.circle.specs.declared.Initial.{Initial}
 use Rattle.circle.specs.Inside.FixedValues.{high, horner}
 
 -- the cosine and the sine at twice the angle
-unfoldable pub doubled : ℕ → ℕ → ℕ → ℕ → Pair
-doubled c cn s sn =
-    let cc = high c c in
-    let ss = high s s in
-    record { c = cond (ltb cc ss) (ss - cc) (cc - ss); cn = cond (ltb cc ss) 1 0; s = 2 * high c s; sn = (cn + sn) % 2 }
+unfoldable pub doubled : Pair → Pair
+doubled p =
+    let cc = high p.c p.c in
+    let ss = high p.s p.s in
+    record { c = cond (ltb cc ss) (ss - cc) (cc - ss); cn = cond (ltb cc ss) 1 0; s = 2 * high p.c p.s; sn = (p.cn + p.sn) % 2 }
 
 -- the cosine of the root of q, by its series to the 12th power
 unfoldable pub cosine_sum : ℕ → ℕ
@@ -31,16 +30,12 @@ sine_sum q =
     horner g3 q 6
 
 -- the cosine and the sine of y / 2 ^ 63, by their series
-unfoldable pub first : ℕ → Initial
+unfoldable pub first : ℕ → Pair
 first y =
     let q = high y y in
-    record { c = cosine_sum q; s = high y (sine_sum q) }
+    record { c = cosine_sum q; cn = 0; s = high y (sine_sum q); sn = 0 }
 
 -- the cosine and the sine of y / 2 ^ 63, doubled so many times
 unfoldable pub circle : ℕ → ℕ → Pair
-circle y zero =
-    let f = first y in
-    record { c = f.c; cn = 0; s = f.s; sn = 0 }
-circle y (suc j) =
-    let p = circle y j in
-    doubled p.c p.cn p.s p.sn
+circle y zero = first y
+circle y (suc j) = doubled (circle y j)

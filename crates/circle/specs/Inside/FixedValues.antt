@@ -2,11 +2,10 @@
 use Rattle.std.specs.Prelude.{ℕ, ◌+◌, ◌-◌, ◌*◌, ◌/◌, ◌%◌, ◌^◌, cond, ◌&&◌, eqb, ltb, Float}
 use Rattle.std.specs.Float.Ieee.{neg, le}
 use Rattle.arith.specs.Double.{◌⊘◌, dbl, bits, bits_of}
-use Rattle.arith.specs.Inside.Scaled.{scaled}
-use Rattle.arith.specs.declared.root.Scaled.{Scaled}
+use Rattle.arith.specs.Inside.Scaled.{Parts, scaled}
 
 -- a finite x above zero as m and e
-unfoldable pub unpacked : Float → Scaled
+unfoldable pub unpacked : Float → Parts
 unpacked x = scaled (bits_of x)
 
 -- a * b / 2 ^ 63, from the halves of a and b without the product of the two lower ones

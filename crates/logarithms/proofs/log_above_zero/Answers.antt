@@ -1,6 +1,6 @@
 -- `logarithms::log_above_zero` meets its contract. Assumes nothing.
 use mathlib.Core.Path.{◌∙◌}
-use Prim.Native.Nat.{ℕ, ◌+◌, ◌-◌, ◌^◌, ◌≤◌, ◌<◌}
+use Prim.Native.Nat.{ℕ, ◌+◌, ◌-◌, ◌≤◌}
 use native.Mathlib.Omega.{arith}
 use borrow.Author.Tests.{lt-ltb, le-ltb}
 use Rattle.logarithms.specs.Inside.LogarithmValues.{log_above_zero}
@@ -8,42 +8,11 @@ use Rattle.circle.proofs.fixed.Order.{above_of}
 use Rattle.logarithms.proofs.Bridge.{near_under, near_over}
 use Rattle.logarithms.proofs.log_above_zero.Goals as goal
 
--- the exponent is a double
-small : (e : ℕ) → e ≤ 3119 → e < 2 ^ 53
-small e h = omega arith
-
 last : (n : ℕ) → n ≤ n - 1 + 1
 last n = omega arith
 
 pub unpack-s-requires : goal.unpack-s-requires
 unpack-s-requires c = above_of c.args.x c.requires.above_zero c.requires.finite
-
-pub overflow_mul-t : goal.overflow_mul-t
-overflow_mul-t c = omega (arith, c.unpack-s.ensures.unpacked.upto)
-
-pub binary_log-requires : goal.binary_log-requires
-binary_log-requires c = (c.unpack-s.ensures.unpacked.least, c.unpack-s.ensures.unpacked.most)
-
-pub overflow_add-t : goal.overflow_add-t
-overflow_add-t c = omega (arith, c.unpack-s.ensures.unpacked.upto, c.binary_log.ensures.binary_log.most)
-
-pub guess-requires : goal.guess-requires
-guess-requires c = (c.unpack-s.ensures.unpacked.most, small c.unpack-s.result.e c.unpack-s.ensures.unpacked.upto)
-
-pub ten_log-requires : goal.ten_log-requires
-ten_log-requires c = omega (arith, c.unpack-s.ensures.unpacked.from, c.binary_log.ensures.binary_log.least)
-
-pub tested_below-requires : goal.tested_below-requires
-tested_below-requires c = c.ten_log.ensures.ten_log.most
-
-pub guess-requires-else-t-lt9009364992 : goal.guess-requires-else-t-lt9009364992
-guess-requires-else-t-lt9009364992 c = (c.unpack-s.ensures.unpacked.most, small c.unpack-s.result.e c.unpack-s.ensures.unpacked.upto)
-
-pub ten_log-requires-else-t-lt9009364992 : goal.ten_log-requires-else-t-lt9009364992
-ten_log-requires-else-t-lt9009364992 c = omega (arith, c.unpack-s.ensures.unpacked.upto, c.binary_log.ensures.binary_log.most)
-
-pub tested_above-requires : goal.tested_above-requires
-tested_above-requires c = c.ten_log-else-t-lt9009364992.ensures.ten_log.most
 
 pub returns-then-t-lt9009364992 : goal.returns-then-t-lt9009364992
 unfolding log_above_zero

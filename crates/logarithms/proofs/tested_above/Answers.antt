@@ -8,12 +8,6 @@ use Rattle.logarithms.proofs.tested_above.Goals as goal
 order : (n : ℕ) → n + 0 ≤ n + 3 + 0
 order n = omega arith
 
-pub overflow_cast-n : goal.overflow_cast-n
-overflow_cast-n c = omega (arith, c.requires)
-
-pub overflow_cast-n-2 : goal.overflow_cast-n-2
-overflow_cast-n-2 c = omega (arith, c.requires)
-
 pub returns : goal.returns
 unfolding tested_above
 returns c =

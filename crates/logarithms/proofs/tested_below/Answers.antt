@@ -12,12 +12,6 @@ use Rattle.logarithms.proofs.tested_below.Goals as goal
 order : (n : ℕ) → 0 + (n - 1) ≤ 0 + (n + 3)
 order n = omega arith
 
-pub overflow_cast-n : goal.overflow_cast-n
-overflow_cast-n c = omega (arith, c.requires)
-
-pub overflow_cast-one_less : goal.overflow_cast-one_less
-overflow_cast-one_less c = omega (arith, c.requires, c.one_less.ensures)
-
 pub returns : goal.returns
 unfolding tested_below
 returns c =
@@ -26,7 +20,7 @@ returns c =
     let u = c.parts-2 in record {
       lies = lies_of (neg l.result) (neg u.result) c.guarded.result 0 (n + 3) 0 (n - 1) (2 ^ 22)
           (difference_less (neg l.result) (n + 3) (2 ^ 22) (negated l.result (n + 3) (2 ^ 22) l.ensures.has_value))
-          (subst (λ (k : ℕ). IsDifference (neg u.result) 0 k (2 ^ 22)) c.one_less.ensures (difference_less (neg u.result) c.one_less.result (2 ^ 22) (negated u.result c.one_less.result (2 ^ 22) u.ensures.has_value)))
+          (subst (λ (k : ℕ). IsDifference (neg u.result) 0 k (2 ^ 22)) c.saturating_sub.ensures (difference_less (neg u.result) c.saturating_sub.result (2 ^ 22) (negated u.result c.saturating_sub.result (2 ^ 22) u.ensures.has_value)))
           (order n) c.guarded.ensures.low_or_within;
-      value = rw (c.guarded.ensures.value, l.ensures.value, u.ensures.value, c.one_less.ensures);
+      value = rw (c.guarded.ensures.value, l.ensures.value, u.ensures.value, c.saturating_sub.ensures);
     }

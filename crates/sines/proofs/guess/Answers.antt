@@ -1,20 +1,29 @@
 -- `sines::guess` meets its contract. Assumes nothing.
-use borrow.Author.Tests.{eq-eqb, ne_eqb}
+use mathlib.Core.Path.{◌≡◌}
+use Prim.Native.Nat.{ℕ, ◌<◌}
+use native.Mathlib.Omega.{arith}
+use borrow.Author.Tests.{ne_eqb}
 use Rattle.sines.specs.Inside.SineValues as SineValues
 use Rattle.sines.proofs.guess.Goals as goal
 
-pub returns-then-quarters-eq0 : goal.returns-then-quarters-eq0
+pub returns-in-0 : goal.returns-in-0
 unfolding SineValues.guess
-returns-then-quarters-eq0 c = rw (← c.reduced-r.ensures, eq-eqb _ _ c.if-quarters-eq0.true, c.sine_series.ensures)
+returns-in-0 c = rw (← c.reduced-r.ensures, c.in-0.is, c.sine_series.ensures)
 
-pub returns-then-quarters-eq1 : goal.returns-then-quarters-eq1
+pub returns-in-1 : goal.returns-in-1
 unfolding SineValues.guess
-returns-then-quarters-eq1 c = rw (← c.reduced-r.ensures, ne_eqb _ _ c.if-quarters-eq0.false, eq-eqb _ _ c.if-quarters-eq1.true, c.cosine_series.ensures)
+returns-in-1 c = rw (← c.reduced-r.ensures, c.in-1.is, c.cosine_series.ensures)
 
-pub returns-then-quarters-eq2 : goal.returns-then-quarters-eq2
+pub returns-in-2 : goal.returns-in-2
 unfolding SineValues.guess
-returns-then-quarters-eq2 c = rw (← c.reduced-r.ensures, ne_eqb _ _ c.if-quarters-eq0.false, ne_eqb _ _ c.if-quarters-eq1.false, eq-eqb _ _ c.if-quarters-eq2.true, c.sine_series-then-quarters-eq2.ensures)
+returns-in-2 c = rw (← c.reduced-r.ensures, c.in-2.is, c.sine_series-in-2.ensures)
 
-pub returns : goal.returns
+not_so : (k q : ℕ) → k < q → q ≡ k → ⊥
+not_so k q h e = omega (arith, h, e)
+
+pub returns-in_default : goal.returns-in_default
 unfolding SineValues.guess
-returns c = rw (← c.reduced-r.ensures, ne_eqb _ _ c.if-quarters-eq0.false, ne_eqb _ _ c.if-quarters-eq1.false, ne_eqb _ _ c.if-quarters-eq2.false, c.cosine_series-2.ensures)
+returns-in_default c =
+    let q = c.reduced-r.result.quarters in
+    let h : 2 < q = omega arith in
+    rw (← c.reduced-r.ensures, ne_eqb _ _ (not_so 0 q (omega (arith, h))), ne_eqb _ _ (not_so 1 q (omega (arith, h))), ne_eqb _ _ (not_so 2 q h), c.cosine_series-in_default.ensures)

@@ -17,18 +17,18 @@ returns-then-x c =
     let t = subst T (sym c.if-x.true) tt in
     record { cosine = λ n l. one_is (num x) (den x) n (den_pos x) (tiny_of x c.requires.least t) l; tiny = λ k. refl; value = rw c.if-x.true }
 
-pub low_cosine-requires : goal.low_cosine-requires
+pub invariant_of-cosine : goal.invariant_of-cosine
 unfolding of_bits
-low_cosine-requires c = record { least = from_of c.args.x 0 (negsuc 26) c.requires.least c.if-x.false; most = subst T (sym c.if-x-2.true) tt }
+invariant_of-cosine c = record { least = from_of c.args.x 0 (negsuc 26) c.requires.least c.if-x.false; below_one = subst T (sym c.if-x-2.true) tt }
 
 pub returns-then-x-2 : goal.returns-then-x-2
 unfolding of_bits SineValues.ranged_cosine
-returns-then-x-2 c = record { cosine = c.low_cosine.ensures.cosine; tiny = λ k. absurd (clash _ c.if-x.false k); value = rw (c.if-x.false, c.if-x-2.true, c.low_cosine.ensures.value, c.guess.ensures) }
+returns-then-x-2 c = record { cosine = c.cosine.ensures.cosine; tiny = λ k. absurd (clash _ c.if-x.false k); value = rw (c.if-x.false, c.if-x-2.true, c.cosine.ensures.value, c.guess.ensures) }
 
-pub far_cosine-requires : goal.far_cosine-requires
+pub invariant_of-cosine-2 : goal.invariant_of-cosine-2
 unfolding of_bits
-far_cosine-requires c = record { least = from_of c.args.x 0 (pos 0) c.requires.least c.if-x-2.false; most = c.requires.most }
+invariant_of-cosine-2 c = record { least = from_of c.args.x 0 (pos 0) c.requires.least c.if-x-2.false; most = c.requires.most }
 
 pub returns : goal.returns
 unfolding of_bits SineValues.ranged_cosine
-returns c = record { cosine = c.far_cosine.ensures.cosine; tiny = λ k. absurd (clash _ c.if-x.false k); value = rw (c.if-x.false, c.if-x-2.false, c.far_cosine.ensures.value) }
+returns c = record { cosine = c.cosine-2.ensures.cosine; tiny = λ k. absurd (clash _ c.if-x.false k); value = rw (c.if-x.false, c.if-x-2.false, c.cosine-2.ensures.value) }

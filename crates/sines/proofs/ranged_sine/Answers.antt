@@ -22,18 +22,18 @@ returns-then-x c =
     let t = subst T (sym c.if-x.true) tt in
     record { sine = λ n l. let w = own_is x n (whole_of x c.requires.least t) (tiny_of x c.requires.least t) l in (narrower x _ _ _ (num x) (den x) (den_pos x) (under (num x) (den x) (tiny_of x c.requires.least t)) w, w); tiny = λ k. refl; value = rw c.if-x.true }
 
-pub low_sine-requires : goal.low_sine-requires
+pub invariant_of-sine : goal.invariant_of-sine
 unfolding of_bits
-low_sine-requires c = record { least = from_of c.args.x 0 (negsuc 26) c.requires.least c.if-x.false; most = subst T (sym c.if-x-2.true) tt }
+invariant_of-sine c = record { least = from_of c.args.x 0 (negsuc 26) c.requires.least c.if-x.false; below_one = subst T (sym c.if-x-2.true) tt }
 
 pub returns-then-x-2 : goal.returns-then-x-2
 unfolding of_bits SineValues.ranged_sine
-returns-then-x-2 c = record { sine = c.low_sine.ensures.sine; tiny = λ k. absurd (clash _ c.if-x.false k); value = rw (c.if-x.false, c.if-x-2.true, c.low_sine.ensures.value, c.guess.ensures) }
+returns-then-x-2 c = record { sine = c.sine.ensures.sine; tiny = λ k. absurd (clash _ c.if-x.false k); value = rw (c.if-x.false, c.if-x-2.true, c.sine.ensures.value, c.guess.ensures) }
 
-pub far_sine-requires : goal.far_sine-requires
+pub invariant_of-sine-2 : goal.invariant_of-sine-2
 unfolding of_bits
-far_sine-requires c = record { least = from_of c.args.x 0 (pos 0) c.requires.least c.if-x-2.false; most = c.requires.most }
+invariant_of-sine-2 c = record { least = from_of c.args.x 0 (pos 0) c.requires.least c.if-x-2.false; most = c.requires.most }
 
 pub returns : goal.returns
 unfolding of_bits SineValues.ranged_sine
-returns c = record { sine = c.far_sine.ensures.sine; tiny = λ k. absurd (clash _ c.if-x.false k); value = rw (c.if-x.false, c.if-x-2.false, c.far_sine.ensures.value) }
+returns c = record { sine = c.sine-2.ensures.sine; tiny = λ k. absurd (clash _ c.if-x.false k); value = rw (c.if-x.false, c.if-x-2.false, c.sine-2.ensures.value) }

@@ -1,11 +1,18 @@
 -- What the functions of `small` give, bit for bit. Definitions only.
-use Rattle.std.specs.Prelude.{ℕ, ◌+◌, ◌-◌, ◌*◌, ◌/◌, ◌^◌, cond, ltb, Float}
+use Rattle.std.specs.Prelude.{ℕ, ◌+◌, ◌-◌, ◌*◌, ◌/◌, ◌^◌, Float}
+use Prim.Native.Nat.{min}
 use Rattle.arith.specs.Double.{◌⊘◌, dbl}
-use Rattle.sines.specs.declared.small.Fraction.{Fraction}
 use Rattle.circle.specs.Inside.FixedValues.{unpacked, high, horner, parts, guarded, tested}
 
+pub record Share : Type 0 where
+  pub m : ℕ
+  pub k : ℕ
+
+abbrev pub share : ℕ → ℕ → Share
+share m k = record { m = m; k = k }
+
 -- x as m / 2 ^ (63 + k), with an m of 63 binary digits
-unfoldable pub split : Float → Fraction
+unfoldable pub split : Float → Share
 split x =
     let s = unpacked x in
     record { m = s.m * 2 ^ 10; k = 2095 - s.e }
@@ -50,7 +57,7 @@ placed m k = parts m ⊘ dbl (2 ^ (k + 1))
 
 -- n with 1024 more, or the largest number of 53 binary digits
 unfoldable pub upper : ℕ → ℕ
-upper n = cond (ltb n (2 ^ 53 - 1024)) (n + 1024) (2 ^ 53 - 1)
+upper n = min (n + 1024) (2 ^ 53 - 1)
 
 -- the guess, where it lies from n - 1024 to n + 1024 in units of 2 ^ -(53 + k), and the lower of these where it does not
 unfoldable pub tested_share : Float → ℕ → ℕ → Float

@@ -20,8 +20,8 @@ is c =
 most : (c : After-nearest_root-r) → c.nearest_root-r.result ≤ 2 ^ 53
 most c =
     let s = c.scale-s in
-    let a = c.before in
-    rw (is c) (result_le a.args.x (held a.before) a.requires s.result.m s.result.e s.ensures.scaled)
+    let a = c.before.before in
+    rw (is c) (result_le a.args.x (held a.before.before) a.requires s.result.m s.result.e s.ensures.scaled)
 
 pattern_lt : (c : After-nearest_root-r) → (c.scale-s.result.e - 52) / 2 * 2 ^ 52 + c.nearest_root-r.result < 2047 * 2 ^ 52
 pattern_lt c = omega (arith, most c, c.scale-s.ensures.scaled.upto)
@@ -38,14 +38,15 @@ nearest_root-r-requires c =
     rw (part_fits c.scale-s.result.m c.scale-s.result.e s.least s.most) (part_in c.scale-s.result.m c.scale-s.result.e s.least s.most)
 
 pub overflow_add-result : goal.overflow_add-result
-overflow_add-result c = omega (arith, pattern_lt c)
+overflow_add-result c = omega (arith, pattern_lt c.before)
 
 pub float_from_bits-result : goal.float_from_bits-result
-float_from_bits-result c = finite_bits ((c.scale-s.result.e - 52) / 2 * 2 ^ 52 + c.nearest_root-r.result) (pattern_lt c)
+float_from_bits-result c = finite_bits ((c.scale-s.result.e - 52) / 2 * 2 ^ 52 + c.nearest_root-r.result) (pattern_lt c.before)
 
 pub returns : goal.returns
 returns c =
-    let s = c.scale-s in
-    let a = c.before in
-    ap (λ (r : ℕ). of_bits binary64 ((s.result.e - 52) / 2 * 2 ^ 52 + r)) (is c)
-    ∙ result_is a.args.x (held a.before) a.requires s.result.m s.result.e s.ensures.scaled
+    let n = c.before in
+    let s = n.scale-s in
+    let a = n.before.before in
+    ap (λ (r : ℕ). of_bits binary64 ((s.result.e - 52) / 2 * 2 ^ 52 + r)) (is n)
+    ∙ result_is a.args.x (held a.before.before) a.requires s.result.m s.result.e s.ensures.scaled

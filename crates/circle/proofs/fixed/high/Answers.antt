@@ -9,20 +9,11 @@ use Rattle.circle.proofs.fixed.high.Goals.{Start}
 fits : (c : Start) → Small c.args.a c.args.b
 fits c = small c.args.a c.args.b c.requires.0 c.requires.1
 
-pub overflow_mul-result : goal.overflow_mul-result
-overflow_mul-result c = omega (arith, fits c)
-
 pub overflow_mul-result-2 : goal.overflow_mul-result-2
 overflow_mul-result-2 c = omega (arith, fits c)
 
-pub overflow_mul-result-3 : goal.overflow_mul-result-3
-overflow_mul-result-3 c = omega (arith, fits c)
-
 pub overflow_add-result : goal.overflow_add-result
 overflow_add-result c = omega (arith, fits c)
-
-pub overflow_mul-result-4 : goal.overflow_mul-result-4
-overflow_mul-result-4 c = omega (arith, fits c)
 
 pub overflow_add-result-2 : goal.overflow_add-result-2
 overflow_add-result-2 c = omega (arith, fits c)

@@ -1,6 +1,5 @@
 -- `fixed::horner` meets its contract. Assumes nothing.
 use Prim.Native.Nat.{◌-◌, ◌^◌, ◌/◌, ◌≤◌}
-use native.Mathlib.Omega.{arith}
 use Rattle.circle.specs.Inside.Horner.{IsHorner}
 use Rattle.circle.specs.Inside.FixedValues.{horner}
 use Rattle.circle.proofs.Alternate.{is_horner}
@@ -9,12 +8,6 @@ use Rattle.circle.proofs.fixed.horner.Goals.{After-high}
 
 facts : (c : After-high) → (c.high.result / c.args.n ≤ 2 ^ 63) × IsHorner c.args.g c.args.q c.args.n (2 ^ 63 - c.high.result / c.args.n)
 facts c = is_horner c.args.g c.args.q c.args.n c.high.result c.requires.2 c.requires.0 c.requires.1 c.high.ensures.high
-
-pub high-requires : goal.high-requires
-high-requires c = (omega arith, omega arith)
-
-pub overflow_sub-result : goal.overflow_sub-result
-overflow_sub-result c = (facts c).0
 
 pub returns : goal.returns
 unfolding horner

@@ -20,12 +20,6 @@ both_more r p q k c s t e f d = record { number = d.number; value = go (plus r *
     go : (a b q p k s t : ℕ) → s ≡ p + k → t ≡ q + k → a + q ≡ p + b → a + t ≡ s + b
     go a b q p k s t e f h = omega (arith, e, f, h)
 
-pub parts-requires : goal.parts-requires
-parts-requires c = small c.args.n
-  where
-    small : (n : ℕ) → 1024 - n < 2 ^ 53
-    small n = omega arith
-
 pub returns-then-n-lt1024 : goal.returns-then-n-lt1024
 unfolding lowered
 returns-then-n-lt1024 c =
@@ -37,12 +31,6 @@ returns-then-n-lt1024 c =
 
     sums : (n : ℕ) → n < 1024 → 1024 ≡ 1024 - n + n
     sums n h = omega arith
-
-pub parts-requires-2 : goal.parts-requires-2
-parts-requires-2 c = small c.args.n c.requires
-  where
-    small : (n : ℕ) → n < 2 ^ 53 → n - 1024 < 2 ^ 53
-    small n h = omega arith
 
 pub returns : goal.returns
 unfolding lowered

@@ -1,6 +1,6 @@
 -- `fixed::tested` meets its contract. Assumes nothing.
 use mathlib.Core.Path.{◌≡◌, refl, sym, subst}
-use Prim.Native.Nat.{ℕ, zero, suc, ◌+◌, ◌^◌, ◌≤◌, ◌<◌}
+use Prim.Native.Nat.{ℕ, zero, suc, ◌+◌, ◌^◌, ◌≤◌}
 use native.Mathlib.Omega.{arith}
 use borrow.Author.Tests.{eq-eqb, ne_eqb}
 use lib.Ieee.{Float, neg}
@@ -10,9 +10,6 @@ use Rattle.circle.specs.Inside.FixedValues.{tested}
 use Rattle.circle.proofs.fixed.Exactly.{negated}
 use Rattle.circle.proofs.fixed.Order.{difference_more, difference_less, opposite, lies_of}
 use Rattle.circle.proofs.fixed.tested.Goals as goal
-
-small : (n : ℕ) → n + 1024 < 2 ^ 53 → n < 2 ^ 53
-small n h = omega arith
 
 order : (n : ℕ) → n + 0 ≤ n + 1024 + 1024
 order n = omega arith
@@ -24,12 +21,6 @@ minus (suc k) n r f h = h
 order_2 : (n : ℕ) → 0 + n ≤ 1024 + (n + 1024)
 order_2 n = omega arith
 
-pub lowered-requires : goal.lowered-requires
-lowered-requires c = small c.args.n c.requires
-
-pub parts-requires : goal.parts-requires
-parts-requires c = c.requires
-
 pub returns-then-sign-eq0 : goal.returns-then-sign-eq0
 unfolding tested
 returns-then-sign-eq0 c =
@@ -39,12 +30,6 @@ returns-then-sign-eq0 c =
           (lies_of c.lowered.result c.parts.result c.guarded.result n 1024 (n + 1024) 0 (2 ^ 52) c.lowered.ensures.difference (difference_more c.parts.result (n + 1024) (2 ^ 52) c.parts.ensures.has_value) (order n) c.guarded.ensures.low_or_within);
       value = rw (c.guarded.ensures.value, eq-eqb _ _ c.if-sign-eq0.true, c.parts.ensures.value, c.lowered.ensures.value);
     }
-
-pub parts-requires-2 : goal.parts-requires-2
-parts-requires-2 c = c.requires
-
-pub lowered-requires-2 : goal.lowered-requires-2
-lowered-requires-2 c = small c.args.n c.requires
 
 pub returns : goal.returns
 unfolding tested

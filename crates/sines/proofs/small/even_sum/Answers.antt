@@ -1,7 +1,7 @@
 -- `small::even_sum` meets its contract. Assumes nothing.
 use mathlib.Core.Path.{refl}
 use Prim.Native.Nat.{◌*◌, ◌^◌}
-use native.Mathlib.Nat.{zero-lt-suc, le_refl}
+use native.Mathlib.Nat.{zero-lt-suc}
 use lib.Dec.{leb→le}
 use Rattle.circle.specs.Inside.Horner.{Alternating}
 use Rattle.sines.specs.Inside.SmallValues as SmallValues
@@ -38,36 +38,6 @@ at_2 c = step 1 c.args.q 2 15 9 98 16 c.horner-g4.result c.horner-g2.result 12 (
 
 at_0 : (c : After-horner) → Alternating 1 c.args.q 0 20 20 c.horner.result
 at_0 c = step 1 c.args.q 0 20 14 15 18 c.horner-g2.result c.horner.result 2 (at_2 c.before) c.horner.ensures.horner refl (leb→le 2 2 tt) refl (leb→le 15 (2 * 14) tt)
-
-pub horner-g18-requires : goal.horner-g18-requires
-horner-g18-requires c = (le_refl (2 ^ 63), c.requires, leb→le 2 380 tt)
-
-pub horner-g16-requires : goal.horner-g16-requires
-horner-g16-requires c = ((at_18 c).most, c.requires, leb→le 2 306 tt)
-
-pub horner-g14-requires : goal.horner-g14-requires
-horner-g14-requires c = ((at_16 c).most, c.requires, leb→le 2 240 tt)
-
-pub horner-g12-requires : goal.horner-g12-requires
-horner-g12-requires c = ((at_14 c).most, c.requires, leb→le 2 182 tt)
-
-pub horner-g10-requires : goal.horner-g10-requires
-horner-g10-requires c = ((at_12 c).most, c.requires, leb→le 2 132 tt)
-
-pub horner-g8-requires : goal.horner-g8-requires
-horner-g8-requires c = ((at_10 c).most, c.requires, leb→le 2 90 tt)
-
-pub horner-g6-requires : goal.horner-g6-requires
-horner-g6-requires c = ((at_8 c).most, c.requires, leb→le 2 56 tt)
-
-pub horner-g4-requires : goal.horner-g4-requires
-horner-g4-requires c = ((at_6 c).most, c.requires, leb→le 2 30 tt)
-
-pub horner-g2-requires : goal.horner-g2-requires
-horner-g2-requires c = ((at_4 c).most, c.requires, leb→le 2 12 tt)
-
-pub horner-requires : goal.horner-requires
-horner-requires c = ((at_2 c).most, c.requires, leb→le 2 2 tt)
 
 pub returns : goal.returns
 unfolding SmallValues.even_sum

@@ -1,7 +1,7 @@
 -- `small::odd_sum` meets its contract. Assumes nothing.
 use mathlib.Core.Path.{refl}
 use Prim.Native.Nat.{◌*◌, ◌^◌}
-use native.Mathlib.Nat.{zero-lt-suc, le_refl}
+use native.Mathlib.Nat.{zero-lt-suc}
 use lib.Dec.{leb→le}
 use Rattle.circle.specs.Inside.Horner.{Alternating}
 use Rattle.sines.specs.Inside.SmallValues as SmallValues
@@ -38,36 +38,6 @@ at_3 c = step 1 c.args.q 3 8 2 28 16 c.horner-g5.result c.horner-g3.result 20 (a
 
 at_1 : (c : After-horner) → Alternating 1 c.args.q 1 20 20 c.horner.result
 at_1 c = step 1 c.args.q 1 20 14 8 18 c.horner-g3.result c.horner.result 6 (at_3 c.before) c.horner.ensures.horner refl (leb→le 2 6 tt) refl (leb→le 8 (6 * 14) tt)
-
-pub horner-g19-requires : goal.horner-g19-requires
-horner-g19-requires c = (le_refl (2 ^ 63), c.requires, leb→le 2 420 tt)
-
-pub horner-g17-requires : goal.horner-g17-requires
-horner-g17-requires c = ((at_19 c).most, c.requires, leb→le 2 342 tt)
-
-pub horner-g15-requires : goal.horner-g15-requires
-horner-g15-requires c = ((at_17 c).most, c.requires, leb→le 2 272 tt)
-
-pub horner-g13-requires : goal.horner-g13-requires
-horner-g13-requires c = ((at_15 c).most, c.requires, leb→le 2 210 tt)
-
-pub horner-g11-requires : goal.horner-g11-requires
-horner-g11-requires c = ((at_13 c).most, c.requires, leb→le 2 156 tt)
-
-pub horner-g9-requires : goal.horner-g9-requires
-horner-g9-requires c = ((at_11 c).most, c.requires, leb→le 2 110 tt)
-
-pub horner-g7-requires : goal.horner-g7-requires
-horner-g7-requires c = ((at_9 c).most, c.requires, leb→le 2 72 tt)
-
-pub horner-g5-requires : goal.horner-g5-requires
-horner-g5-requires c = ((at_7 c).most, c.requires, leb→le 2 42 tt)
-
-pub horner-g3-requires : goal.horner-g3-requires
-horner-g3-requires c = ((at_5 c).most, c.requires, leb→le 2 20 tt)
-
-pub horner-requires : goal.horner-requires
-horner-requires c = ((at_3 c).most, c.requires, leb→le 2 6 tt)
 
 pub returns : goal.returns
 unfolding SmallValues.odd_sum

@@ -2,12 +2,12 @@
 use mathlib.Core.Path.{◌≡◌, sym, ap, subst, ◌∙◌}
 use mathlib.Core.Bool.{false}
 use Prim.Native.Nat.{ℕ, suc, ◌+◌, ◌*◌, ◌^◌, ◌%◌, ◌≤◌}
-use native.Mathlib.Nat.{le_trans, one-mul, mod-eq_of_lt, lt_of_le_of_lt}
+use native.Mathlib.Nat.{one-mul, mod-eq_of_lt, lt_of_le_of_lt}
 use native.Mathlib.Omega.{arith}
-use lib.Dec.{le→leb, leb→le}
+use lib.Dec.{leb→le}
 use lib.Pow.{pow_mono}
 use lib.IntN.{pos}
-use lib.Ieee.{binary64, of_int, in_float}
+use lib.Ieee.{binary64, of_int}
 use lib.Ieee.Exact.{HasValue}
 use Rattle.sines.specs.Inside.SmallValues as SmallValues
 use Rattle.circle.proofs.fixed.Exactly.{whole, over_power}
@@ -24,15 +24,6 @@ power_is k h = ap (λ (x : ℕ). x % 2 ^ 64) (one-mul (2 ^ (k + 1))) ∙ mod-eq_
 
 under : (k : ℕ) → k ≤ 26 → 52 + (k + 1) ≤ 1022
 under k h = omega arith
-
-pub parts-requires : goal.parts-requires
-parts-requires c = c.requires.0
-
-pub int_to_float-result : goal.int_to_float-result
-unfolding in_float
-int_to_float-result c =
-    let k = c.args.k in
-    rw (power_is k c.requires.1) (le→leb (2 ^ (k + 1)) (2 ^ 53) (le_trans (power_small k c.requires.1) (leb→le (2 ^ 27) (2 ^ 53) tt)))
 
 pub returns : goal.returns
 unfolding SmallValues.placed

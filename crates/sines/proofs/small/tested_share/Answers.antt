@@ -1,6 +1,6 @@
 -- `small::tested_share` meets its contract. Assumes nothing.
 use mathlib.Core.Path.{◌≡◌, subst}
-use Prim.Native.Nat.{ℕ, ◌+◌, ◌-◌, ◌*◌, ◌^◌, ◌≤◌, ◌<◌}
+use Prim.Native.Nat.{ℕ, ◌+◌, ◌-◌, ◌*◌, ◌^◌, ◌≤◌, ◌<◌, min}
 use native.Mathlib.Nat.{le_trans, add-le-add, le_refl, mul-le-mul_right}
 use native.Mathlib.Omega.{arith}
 use lib.Ieee.{Float}
@@ -18,30 +18,23 @@ wider r p s t c h v = record { number = v.number; from = v.from; upto = le_trans
 order : (n u : ℕ) → n ≤ u → n - 1024 + 0 ≤ u + 0
 order n u h = omega arith
 
-pub placed-requires : goal.placed-requires
-placed-requires c = (small c.args.n c.lower.result c.lower.ensures c.requires.0, c.requires.1)
-  where
-    small : (n l : ℕ) → l ≡ n - 1024 → n < 2 ^ 53 → l < 2 ^ 53
-    small n l e h = omega arith
-
-pub upper-requires : goal.upper-requires
-upper-requires c = c.requires.0
-
-pub placed-requires-2 : goal.placed-requires-2
-placed-requires-2 c = (c.upper.ensures.near.2, c.requires.1)
+-- the upper bound is at least n, at most n + 1024, and has 53 binary digits
+near : (n u : ℕ) → n < 2 ^ 53 → u ≡ min (n + 1024) (2 ^ 53 - 1) → (n ≤ u) × (u ≤ n + 1024) × (u < 2 ^ 53)
+near n u h e = (omega arith, omega arith, omega arith)
 
 pub returns : goal.returns
-unfolding SmallValues.tested_share
+unfolding SmallValues.tested_share SmallValues.upper
 returns c =
     let a = c.args in
     let l = c.placed in
-    let e = c.lower in
-    let u = c.upper in
+    let e = c.saturating_sub-low in
+    let u = c.min-up in
     let h = c.placed-2 in
+    let b = near a.n u.result c.requires.0 u.ensures in
     let C = 2 ^ 52 * 2 ^ (a.k + 1) in record {
-      lies = wider c.guarded.result (a.n - 1024) u.result (a.n + 1024) C u.ensures.near.1
+      lies = wider c.guarded.result (a.n - 1024) u.result (a.n + 1024) C b.1
           (lies_of l.result h.result c.guarded.result (a.n - 1024) 0 u.result 0 C
           (subst (λ (z : ℕ). IsDifference l.result z 0 C) e.ensures (difference_more l.result e.result C l.ensures.has_value))
-          (difference_more h.result u.result C h.ensures.has_value) (order a.n u.result u.ensures.near.0) c.guarded.ensures.low_or_within);
-      value = rw (c.guarded.ensures.value, h.ensures.value, u.ensures.value, l.ensures.value, e.ensures);
+          (difference_more h.result u.result C h.ensures.has_value) (order a.n u.result b.0) c.guarded.ensures.low_or_within);
+      value = rw (c.guarded.ensures.value, h.ensures.value, u.ensures, l.ensures.value, e.ensures);
     }
