@@ -2,7 +2,7 @@
 use Prim.Native.Nat.{ℕ, zero, suc, ◌+◌, ◌*◌, ◌<◌}
 use mathlib.Core.Path.{◌≡◌, refl, sym, ap, subst, ◌∙◌}
 use mathlib.Core.Bool.{Bool, true, false, not, cond, ◌&&◌}
-use mathlib.Core.List.{List, [], ◌∷◌, ◌++◌}
+use mathlib.Core.List.{List, ◌++◌}
 use native.Mathlib.Nat.{add-zero}
 use native.Mathlib.Omega.{arith}
 use borrow.Author.Tests.{ltb-true}
@@ -10,28 +10,13 @@ use lib.Dec.{T, ltb}
 use lib.Ieee.{binary64, is_nan, nan_bits}
 use lib.Ieee.Bits.{of_bits-to_bits, nan_bits_is}
 use lib.Ieee.Fits.{div-fits}
-use lib.ListN.{get_or, length, take, drop, set, length-append, length-drop, get_or-append}
-use lib.Seq.{get_or-append-add, get_or-drop, take_all, take-suc, take-suc-set}
+use lib.ListN.{get_or, length, length-append, get_or-append}
+use lib.Seq.{get_or-append-add}
 use Rattle.arith.specs.Double.{bits, bits_of}
 use Rattle.arith.proofs.Laws.{round_number}
 use Rattle.factors.specs.Factors.{factor_a, bits_from, bits_of_order, factor_table}
 use Rattle.factors.specs.Lookup.{place, TableLaw, LookupLaw}
 use Rattle.factors.proofs.Quotient.{top, bottom, once_rounded}
-
--- ---- a part of a list, copied place by place
-
--- one place more
-pub one_more : (table out : List ℕ) (from i : ℕ) → from + i < length table → i < length out → take i out ≡ take i (drop from table)
-    → take (suc i) (set out i (get_or table (from + i) 0)) ≡ take (suc i) (drop from table)
-one_more table out from i h k e =
-    let x = get_or table (from + i) 0 in
-    take-suc-set out i x k
-    ∙ ap (λ (l : List ℕ). l ++ (x ∷ [])) e
-    ∙ ap (λ (y : ℕ). take i (drop from table) ++ (y ∷ [])) (sym (get_or-drop from table i 0))
-    ∙ sym (take-suc (drop from table) i 0 (rw length-drop (omega arith)))
-
-pub all_copied : (part out : List ℕ) (i : ℕ) → i ≡ 200 → length out ≡ 200 → take i out ≡ take i part → out ≡ take 200 part
-all_copied part out i h l e = sym (take_all 200 out (omega arith)) ∙ rw h at e
 
 -- ---- lists one after the other
 
@@ -40,7 +25,7 @@ past : (xs ys : List ℕ) (n k j : ℕ) → length xs ≡ n → k ≡ n + j → 
 past xs ys n k j e h = rw (h, ← e) (get_or-append-add xs ys j 0)
 
 -- ---- a family's entries
-pub length_bits : (m parity i n : ℕ) → length (bits_from m parity i n) ≡ n
+length_bits : (m parity i n : ℕ) → length (bits_from m parity i n) ≡ n
 unfolding bits_from
 length_bits m parity i zero = refl
 length_bits m parity i (suc n) = ap suc (length_bits m parity (i + 1) n)
@@ -92,25 +77,22 @@ table_law =
 
 -- ---- what is looked up
 
--- in a family's own part
-pub read_there : (m parity i : ℕ) → i < 200 → bits (get_or (bits_from m parity 0 200) i 0) ≡ factor_a m (2 * i + parity)
-read_there m parity i h =
-    let z : 0 + i ≡ i = omega arith in
-    rw (bits_at m parity 0 200 i h, z) (of_bits-to_bits binary64 (factor_a m (2 * i + parity)) (div-fits binary64 _ _))
+-- a place of the table holds its entry's factor
+pub read_there : (m parity i : ℕ) → m < 4 → parity < 2 → i < 200 → bits (get_or factor_table (place m parity i) 0) ≡ factor_a m (2 * i + parity)
+read_there m parity i h k l = rw (table_law.1 m parity i h k l) (of_bits-to_bits binary64 (factor_a m (2 * i + parity)) (div-fits binary64 _ _))
 
--- no place of it holds a NaN's pattern
-pub no_nan : (m parity i : ℕ) → m < 4 → parity < 2 → i < 200 → T (not (nan_bits binary64 (get_or (bits_from m parity 0 200) i 0)))
+-- and no NaN's pattern
+pub no_nan : (m parity i : ℕ) → m < 4 → parity < 2 → i < 200 → T (not (nan_bits binary64 (get_or factor_table (place m parity i) 0)))
 no_nan m parity i h k l =
     subst (λ (t : Bool). T (not t))
-    (sym (nan_bits_is binary64 _ ∙ ap is_nan (read_there m parity i l ∙ once_rounded m (2 * i + parity) (omega arith)) ∙ round_number false (top m (2 * i + parity)) (bottom m (2 * i + parity))))
+    (sym (nan_bits_is binary64 _ ∙ ap is_nan (read_there m parity i h k l ∙ once_rounded m (2 * i + parity) (omega arith)) ∙ round_number false (top m (2 * i + parity)) (bottom m (2 * i + parity))))
     tt
 
--- in the whole table
+-- looked up or worked out, it is the same
 pub lookup_law : LookupLaw
 lookup_law m parity i h = go (ltb m 4) (ltb i 200) refl refl
   where
     go : (s t : Bool) → ltb m 4 ≡ s → ltb i 200 ≡ t → cond (s && t) (bits (get_or factor_table (place m parity i) 0)) (factor_a m (2 * i + parity)) ≡ factor_a m (2 * i + parity)
-    go true true p q =
-        rw (table_law.1 m parity i (ltb-true m 4 p) h (ltb-true i 200 q)) (of_bits-to_bits binary64 (factor_a m (2 * i + parity)) (div-fits binary64 _ _))
+    go true true p q = read_there m parity i (ltb-true m 4 p) h (ltb-true i 200 q)
     go true false p q = refl
     go false t p q = refl

@@ -57,7 +57,3 @@ order_is m h = rw (from_quotients m 0 0 200 (omega arith), from_quotients m 1 0 
 pub table_is : factor_table ≡ quotient_table
 unfolding factor_table quotient_table
 table_is = rw (order_is 0 (omega arith), order_is 1 (omega arith), order_is 2 (omega arith), order_is 3 (omega arith))
-
--- a family's part of the table
-pub block_is : (m parity : ℕ) (r part : List ℕ) → m + (2 * (0 + 200) + parity) < 4096 → r ≡ part → part ≡ quotients_from m parity 0 200 → r ≡ bits_from m parity 0 200
-block_is m parity r part l a b = a ∙ b ∙ rw (from_quotients m parity 0 200 l)

@@ -3,15 +3,14 @@
 ghost use Rattle.std.specs.Prelude.{◌≡◌};
 ghost use Rattle.factors.specs.Factors.{factor_table};
 
-pub type Table = [u64; 1600];
-
-pub fn table() -> Table
-    ensures { result ≡ factor_table }
+// A `static` has one place, where a constant array would be stored anew wherever it is used.
+pub fn table() -> &'static [u64; 1600]
+    ensures { result.now ≡ factor_table }
 {
-    FACTORS
+    &FACTORS
 }
 
-pub(crate) const FACTORS: [u64; 1600] = [
+static FACTORS: [u64; 1600] = [
     0x3fc1_1111_1111_1111,
     0x3fc8_6186_1861_8618,
     0x3fca_da67_d508_f378,

@@ -3,3 +3,5 @@ pub mod FromTable
 pub mod Stored
 pub mod Bounded
 pub mod Examples
+-- Lemmas of the pivot count.
+mod Chain

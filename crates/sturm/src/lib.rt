@@ -6,8 +6,6 @@ mod entries;
 mod gershgorin_bounds;
 mod pivots;
 
-pub use entries::{blank, entry_a, entry_d, entry_g, fill, fill_with};
-pub use gershgorin_bounds::{Bounds, gershgorin};
-pub use pivots::{
-    Count, Counts, Flags, Numbers, Seven, counted, divisor, negative_pivots, pivot, square,
-};
+pub use entries::{Matrix, entry_a, entry_d, entry_g, family_matrix};
+pub use gershgorin_bounds::Bounds;
+pub use pivots::{Count, Counts, Seven, counted, divisor, pivot, square};

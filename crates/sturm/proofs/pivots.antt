@@ -1,2 +1,0 @@
--- Lemmas of the pivot count.
-mod Chain
