@@ -1,7 +1,7 @@
 -- Eight matrices side by side, a lane for each. Definitions only.
-use Rattle.std.specs.Prelude.{ℕ, ◌+◌, ◌*◌, ◌≤◌, ◌<◌, ◌≡◌, false, List, Float}
+use Rattle.std.specs.Prelude.{ℕ, ◌+◌, ◌*◌, ◌≤◌, ◌<◌, ◌≡◌, false, List, Float, replicate}
 use Rattle.std.specs.Float.{inf}
-use Rattle.arith.specs.Double.{at}
+use Rattle.arith.specs.Double.{at, #0}
 
 -- entry i of lane j
 abbrev pub lane_at : List Float → ℕ → ℕ → Float
@@ -16,3 +16,7 @@ pub record Holds (ds es : List Float) (j k : ℕ) (d e : List Float) : Type 0 wh
 -- a store in one lane leaves lane j as it is
 abbrev pub SameLane : List Float → List Float → ℕ → Type 0
 SameLane xs ys j = (i : ℕ) → lane_at ys j i ≡ lane_at xs j i
+
+-- no entry in any lane
+abbrev pub no_entries : List Float
+no_entries = replicate 1536 #0

@@ -6,5 +6,4 @@
 mod entries;
 mod pivots;
 
-pub use entries::{load, zeros};
-pub use pivots::negative_pivots;
+pub use entries::Matrices;

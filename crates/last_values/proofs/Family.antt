@@ -4,24 +4,22 @@ use mathlib.Core.Path.{◌≡◌, refl, ◌∙◌}
 use mathlib.Core.Bool.{Bool, true, false, cond, ◌||◌}
 use mathlib.Core.List.{List}
 use native.Mathlib.Omega.{arith}
+use Rattle.std.specs.Prelude.{Ok, Err}
 use lib.Dec.{ltb}
 use lib.Ieee.{Float, lt}
 use lib.ListN.{length, get_or, set, length-set}
 use lib.Seq.{get_or-set_same}
 use Rattle.arith.specs.Double.{◌⊕◌, ◌⊖◌, ◌⊘◌, #0, #2, #1e-14}
 use Rattle.arith.specs.Choice.{abs}
-use Rattle.arith.proofs.Flags.{not_left}
 use Rattle.sturm.specs.declared.pivots.Count.{Count}
 use Rattle.sturm.specs.Pivots.{negative_pivots, count}
 use Rattle.segv.specs.declared.bisection.Bracket.{Bracket}
-use Rattle.segv.specs.declared.bisection.Search.{Search}
-use Rattle.segv.specs.declared.bisection.Search.TheVariants.{Converged, OutOfSteps}
-use Rattle.segv.specs.declared.families.Family.{Family}
-use Rattle.segv.specs.Bisection.{Ends, bisection, with_midpoint, converged, tighten, tighten_others, tighten_counted}
-use Rattle.segv.specs.Families.{opened_at, family_from, on_search}
+use Rattle.segv.specs.declared.ends.Ends.{Ends}
+use Rattle.segv.specs.Bisection.{Search, bisection, with_midpoint, converged, tighten, tighten_others, tighten_counted}
+use Rattle.segv.specs.Families.{Family, opened_at, family_from, on_search}
 use Rattle.segv.specs.Inside.Arrays.{ends}
 use Rattle.segv.specs.Row.{no_bracket}
-use Rattle.last_values.specs.Lane.{Last, out_of_steps, given, on_found, last_from, resumed}
+use Rattle.last_values.specs.Lane.{Last, on_found, last_from, resumed}
 
 abbrev bracket : Float → Float → Float → ℕ → Bool → Bracket
 bracket v l u n f = record { value = v; lower = l; upper = u; steps = n; substituted = f }
@@ -31,15 +29,14 @@ pub others_alike : (places place : ℕ) (j k : Count) (x : Float) (s : Ends) →
 unfolding tighten_others tighten_counted
 others_alike places place j k x s h = rw h
 
--- a family has what is said of its last place, which is at q
-pub record Agrees (f : Family) (l : Last) (q : ℕ) : Type 0 where
-  pub stopped : f.stopped ≡ l.stopped
-  pub value : f.stopped ≡ false → (get_or f.brackets q no_bracket).value ≡ l.value
+-- what a family has for its place at q
+abbrev pub last_in : Family → ℕ → Last
+last_in (Ok out) q = Ok (get_or out q no_bracket).value
+last_in (Err e) q = Err e
 
-found_agrees : (f : Search) (out : List Bracket) (on : Bracket → Family) (next : Bracket → Last) (q : ℕ) → ((r : Bracket) → Agrees (on r) (next r) q)
-    → Agrees (on_search f (record { stopped = true; brackets = out }) on) (on_found f next) q
-found_agrees (Converged r) out on next q h = h r
-found_agrees OutOfSteps out on next q h = record { stopped = refl; value = λ z. not_left z }
+found_agrees : (f : Search) (on : Bracket → Family) (next : Bracket → Last) (q : ℕ) → ((r : Bracket) → last_in (on r) q ≡ next r) → last_in (on_search f on) q ≡ on_found f next
+found_agrees (Ok r) on next q h = h r
+found_agrees (Err e) on next q h = refl
 
 module _ (d e : List Float) (entries places : ℕ) where
   -- ---- what a bisection finds does not depend on steps and flag before it, nor on the value
@@ -71,7 +68,7 @@ module _ (d e : List Float) (entries places : ℕ) where
 
   module _ (allowance : ℕ) where
     -- ---- the steps of a place
-    pub resumed_out : (p left : ℕ) (l u : Float) (s : Ends) → left ≡ 0 → resumed d e entries places allowance p left l u s ≡ out_of_steps
+    pub resumed_out : (p left : ℕ) (l u : Float) (s : Ends) → left ≡ 0 → resumed d e entries places allowance p left l u s ≡ Err (record {})
     unfolding resumed bisection
     resumed_out p left l u s h = rw h
 
@@ -91,7 +88,7 @@ module _ (d e : List Float) (entries places : ℕ) where
           (blind (p + 1) (λ v w t. last_from d e entries places allowance (places - (p + 1)) (p + 1) (ends t.uppers (set t.lowers p w)) v) rest x #0 _ _ _ _ _ _ _)
 
     -- ---- from place to place
-    pub last_end : (n p : ℕ) (s : Ends) (v : Float) → n ≡ 0 → last_from d e entries places allowance n p s v ≡ given v
+    pub last_end : (n p : ℕ) (s : Ends) (v : Float) → n ≡ 0 → last_from d e entries places allowance n p s v ≡ Ok v
     unfolding last_from
     last_end n p s v h = rw h
 
@@ -102,13 +99,13 @@ module _ (d e : List Float) (entries places : ℕ) where
 
     -- ---- the same as `family_from` has it
     pub last_agrees : (n p : ℕ) (s : Ends) (out : List Bracket) (v : Float) → length out ≡ 100 → p + n ≤ 100 → (get_or out (p - 1) no_bracket).value ≡ v
-        → Agrees (family_from d e entries places allowance n p s out) (last_from d e entries places allowance n p s v) (p + n - 1)
+        → last_in (family_from d e entries places allowance n p s out) (p + n - 1) ≡ last_from d e entries places allowance n p s v
     unfolding family_from last_from
-    last_agrees zero p s out v hl hp hv = let q : p + 0 - 1 ≡ p - 1 = omega arith in record { stopped = refl; value = λ z. rw q hv }
+    last_agrees zero p s out v hl hp hv = let q : p + 0 - 1 ≡ p - 1 = omega arith in rw (q, hv)
     last_agrees (suc n) p s out v hl hp hv =
         let q : p + suc n - 1 ≡ p + 1 + n - 1 = omega arith in
         let b = bisection d e entries places (p + 1) allowance (opened_at s p places) s in
         rw q
-        (found_agrees b.found out _ _ (p + 1 + n - 1)
+        (found_agrees b.found _ _ (p + 1 + n - 1)
         (λ (r : Bracket). last_agrees n (p + 1) (ends b.ends.uppers (set b.ends.lowers p r.lower)) (set out p r) r.value (length-set out p r ∙ hl) (omega arith)
         (let z : p + 1 - 1 ≡ p = omega arith in rw (z, get_or-set_same out p r no_bracket (omega (arith, hl))))))

@@ -9,4 +9,4 @@ mod running;
 mod values;
 
 pub use lane::Lane;
-pub use values::{Values, last_values};
+pub use values::last_values;

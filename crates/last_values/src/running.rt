@@ -1,118 +1,67 @@
-// Eight lanes, run until each is through.
-ghost use Rattle.std.specs.Prelude.{◌≡◌, true, false, ℕ, ◌<◌, ◌≤◌, get_or};
+// Eight lanes, run until each is through. The matrices, the limits and the lanes come beside each other:
+// the lanes alone are written. That they are inside the places is no fact of a type: it would have to be
+// shown anew after the write to each lane, and not once a pass.
+ghost use Rattle.std.specs.Prelude.{◌≡◌, ℕ, ◌<◌, ◌≤◌, get_or, length, None, is_some, true};
 ghost use Rattle.arith.specs.Double.{at};
 ghost use Rattle.last_values.specs.Lane.{midpoint_of, weight, Stepped};
-ghost use Rattle.last_values.specs.Lanes.{lane_of, ends_of, Eight, Inside, Went};
+ghost use Rattle.last_values.specs.Lanes.{lane_of, Inside, Went};
 
 use super::lane::Lane;
+use lanes::Matrices;
+use segv::Limits;
 
 // Where each lane counts next.
-fn midpoints(lanes: [Lane; 8]) -> [f64; 8]
-    ensures { (j : ℕ) → j < 8 → at result j ≡ midpoint_of (lane_of lanes j) }
+fn midpoints(lanes: &[Lane; 8]) -> [f64; 8]
+    ensures { (j : ℕ) → j < 8 → at result j ≡ midpoint_of (lane_of lanes.now j) }
 {
     let mut out = [0.0; 8];
-    let mut j: usize = 0;
-    while j < 8 {
+    for j in 0..8 {
         out[j] = lanes[j].midpoint();
-        j = j + 1;
     }
     out
 }
 
 // A step of each lane, by the counts at their midpoints.
-fn step_each(
-    lanes: [Lane; 8],
-    negative: [usize; 8],
-    places: usize,
-    allowance: u32,
-    uppers: &mut [[f64; 100]; 8],
-    lowers: &mut [[f64; 100]; 8],
-) -> [Lane; 8]
-    requires { (places ≤ 100) × Eight lanes uppers.old lowers.old × Inside places lanes }
-    ensures by_index { (j : ℕ) → j < 8 → Stepped places allowance (get_or negative j 0) (lane_of lanes j) (lane_of result j) (ends_of uppers.old lowers.old j) (ends_of uppers.new lowers.new j) }
-    ensures eight { Eight result uppers.new lowers.new }
+fn step_each(lanes: &mut [Lane; 8], negative: [usize; 8], limits: Limits)
+    requires { Inside limits.places lanes.old }
+    ensures by_index { (j : ℕ) → j < 8 → Stepped limits.places limits.allowance (get_or negative j 0) (lane_of lanes.old j) (lane_of lanes.new j) }
+    ensures eight { length lanes.new ≡ 8 }
 {
-    let mut out = lanes;
-    let mut j: usize = 0;
-    while j < 8 {
-        out[j] = super::lane::step(
-            out[j],
-            negative[j],
-            places,
-            allowance,
-            &mut uppers[j],
-            &mut lowers[j],
-        );
-        j = j + 1;
+    for j in 0..8 {
+        lanes[j].step(negative[j], limits);
     }
-    out
 }
 
 // A step of each lane: one pass counts for all of them.
-fn pass(
-    ds: &[f64; 1536],
-    es: &[f64; 1536],
-    entries: usize,
-    places: usize,
-    allowance: u32,
-    lanes: [Lane; 8],
-    uppers: &mut [[f64; 100]; 8],
-    lowers: &mut [[f64; 100]; 8],
-) -> [Lane; 8]
-    requires { (entries ≤ 192) × (places ≤ 100) × Eight lanes uppers.old lowers.old × Inside places lanes }
-    ensures went { Went ds.now es.now entries places allowance lanes result uppers.old uppers.new lowers.old lowers.new }
-    ensures by_index { (j : ℕ) → j < 8 → (lane_of lanes j).ended ≡ false → weight places allowance (lane_of result j) < weight places allowance (lane_of lanes j) }
+fn pass(matrices: &Matrices, limits: Limits, lanes: &mut [Lane; 8])
+    requires { Inside limits.places lanes.old }
+    ensures went { Went matrices.now limits.places limits.allowance lanes.old lanes.new }
+    ensures by_index { (j : ℕ) → j < 8 → (lane_of lanes.old j).outcome ≡ None → weight limits.places limits.allowance (lane_of lanes.new j) < weight limits.places limits.allowance (lane_of lanes.old j) }
 {
     let shifts = midpoints(lanes);
-    let negative = lanes::negative_pivots(ds, es, entries, &shifts);
-    step_each(lanes, negative, places, allowance, uppers, lowers)
+    let negative = matrices.negative_pivots(&shifts);
+    step_each(lanes, negative, limits);
 }
 
 // Until lane j is through.
-fn run_lane(
-    ds: &[f64; 1536],
-    es: &[f64; 1536],
-    entries: usize,
-    places: usize,
-    allowance: u32,
-    j: usize,
-    lanes: [Lane; 8],
-    uppers: &mut [[f64; 100]; 8],
-    lowers: &mut [[f64; 100]; 8],
-) -> [Lane; 8]
-    requires { (entries ≤ 192) × (places ≤ 100) × (j < 8) × Eight lanes uppers.old lowers.old × Inside places lanes }
-    ensures went { Went ds.now es.now entries places allowance lanes result uppers.old uppers.new lowers.old lowers.new }
-    ensures through { (lane_of result j).ended ≡ true }
+fn run_lane(matrices: &Matrices, limits: Limits, j: usize, lanes: &mut [Lane; 8])
+    requires { (j < 8) × Inside limits.places lanes.old }
+    ensures went { Went matrices.now limits.places limits.allowance lanes.old lanes.new }
+    ensures through { is_some (lane_of lanes.new j).outcome ≡ true }
 {
-    let mut out = lanes;
-    while !out[j].ended {
-        let next = pass(ds, es, entries, places, allowance, out, uppers, lowers);
-        out = next;
+    // A `while`: how many steps the lane takes is not known before.
+    while lanes[j].outcome.is_none() {
+        pass(matrices, limits, lanes);
     }
-    out
 }
 
 // Until all are.
-pub(crate) fn run(
-    ds: &[f64; 1536],
-    es: &[f64; 1536],
-    entries: usize,
-    places: usize,
-    allowance: u32,
-    lanes: [Lane; 8],
-    uppers: &mut [[f64; 100]; 8],
-    lowers: &mut [[f64; 100]; 8],
-) -> [Lane; 8]
-    requires { (entries ≤ 192) × (places ≤ 100) × Eight lanes uppers.old lowers.old × Inside places lanes }
-    ensures went { Went ds.now es.now entries places allowance lanes result uppers.old uppers.new lowers.old lowers.new }
-    ensures by_index { (j : ℕ) → j < 8 → (lane_of result j).ended ≡ true }
+pub(crate) fn run(matrices: &Matrices, limits: Limits, lanes: &mut [Lane; 8])
+    requires { Inside limits.places lanes.old }
+    ensures went { Went matrices.now limits.places limits.allowance lanes.old lanes.new }
+    ensures by_index { (j : ℕ) → j < 8 → is_some (lane_of lanes.new j).outcome ≡ true }
 {
-    let mut out = lanes;
-    let mut j: usize = 0;
-    while j < 8 {
-        let next = run_lane(ds, es, entries, places, allowance, j, out, uppers, lowers);
-        out = next;
-        j = j + 1;
+    for j in 0..8 {
+        run_lane(matrices, limits, j, lanes);
     }
-    out
 }

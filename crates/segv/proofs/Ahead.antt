@@ -8,13 +8,12 @@ use lib.Ieee.{Float}
 use Rattle.arith.specs.Double.{◌⊕◌, ◌⊘◌, #2}
 use Rattle.sturm.specs.declared.pivots.Count.{Count}
 use Rattle.sturm.specs.declared.pivots.Counts.{Counts}
-use Rattle.sturm.specs.declared.pivots.Flags.{Flags}
-use Rattle.sturm.specs.declared.pivots.Numbers.{Numbers}
+use Rattle.sturm.specs.declared.pivots.Seven.{Seven}
 use Rattle.sturm.specs.Pivots.{count}
 use Rattle.sturm.specs.Inside.SevenShifts.{counts_at, count_x}
 use Rattle.segv.specs.declared.bisection.Bracket.{Bracket}
 use Rattle.segv.specs.Bisection.{with_midpoint, tighten}
-use Rattle.segv.specs.Inside.Ahead.{midpoints_ahead, counts_after}
+use Rattle.segv.specs.Inside.Ahead.{midpoints_ahead, half_of, counts_after}
 
 abbrev mid : Float → Float → Float
 mid lower upper = (upper ⊕ lower) ⊘ #2
@@ -50,18 +49,15 @@ module _ (np : Float → Count) where
     unfolding tighten with_midpoint
     known_after place j t k' hj ht hk = rw (ht, hj, hk, hh) (go (ltb k.negative.x place))
       where
-        n : Numbers
+        n : Seven ℕ
         n = k.negative
 
-        z : Flags
+        z : Seven Bool
         z = k.substituted
 
         go : (b : Bool)
             → Known np (known - 1) (cond b (mid r.lower r.upper) r.lower) (cond b r.upper (mid r.lower r.upper))
-            (record {
-              negative = record { x = cond b n.h n.l; l = cond b n.hl n.ll; h = cond b n.hh n.lh; ll = 0; lh = 0; hl = 0; hh = 0 };
-              substituted = record { x = cond b z.h z.l; l = cond b z.hl z.ll; h = cond b z.hh z.lh; ll = false; lh = false; hl = false; hh = false };
-            })
+            (record { negative = half_of b 0 n; substituted = half_of b false z })
         go true =
             record {
               few = let f = c.few in omega arith;

@@ -4,7 +4,7 @@ use mathlib.Core.Path.{◌≡◌, sym, subst}
 use mathlib.Core.List.{List}
 use native.Mathlib.Omega.{arith}
 use lib.Dec.{ltb, leb, eqb}
-use lib.ListN.{get_or, get_or-replicate}
+use lib.ListN.{get_or, replicate, get_or-replicate}
 use lib.Ieee.{Float, nan, lt}
 use Rattle.arith.specs.Double.{◌⊕◌, ◌⊘◌, #0, #2, at}
 use Rattle.arith.specs.Choice.{lesser, greater}
@@ -17,9 +17,9 @@ use Rattle.sturm.specs.Bounds.{bounds_of}
 use Rattle.sturm.specs.Entries.{diagonal, off_diagonal}
 use Rattle.sturm.proofs.Stored.{stored}
 use Rattle.segv.specs.declared.bisection.Bracket.{Bracket}
-use Rattle.segv.specs.declared.families.Family.{Family}
-use Rattle.segv.specs.Bisection.{Ends, Outcome, bisection, with_midpoint, converged, tighten, tighten_others, tighten_counted}
-use Rattle.segv.specs.Families.{first_below, raised, opened_at, family_from, bisected_family, blank_bracket, family_of, both_families}
+use Rattle.segv.specs.declared.ends.Ends.{Ends}
+use Rattle.segv.specs.Bisection.{Outcome, bisection, with_midpoint, converged, tighten, tighten_others, tighten_counted}
+use Rattle.segv.specs.Families.{Family, brackets, first_below, raised, opened_at, family_from, bisected_family, blank_bracket, family_of, both_families}
 use Rattle.segv.specs.Row.{no_bracket, mode_at}
 use Rattle.segv.proofs.Sound.{Found, by_found}
 
@@ -82,26 +82,30 @@ module _ (P : Float → Type 0) (mid : (u l : Float) → P u → P l → P ((u �
     abbrev Values : List Bracket → Type 0
     Values out = (q : ℕ) → q < 100 → P (get_or out q no_bracket).value
 
-    from_kept : (allowance n p : ℕ) (s : Ends) (out : List Bracket) → p + n ≡ places → All s → Values out → Values (family_from ds es entries places allowance n p s out).brackets
+    blanks : P #0 → Values (replicate 100 blank_bracket)
+    unfolding blank_bracket
+    blanks z q hq = subst (λ (b : Bracket). P b.value) (sym (get_or-replicate 100 q blank_bracket no_bracket hq)) z
+
+    from_kept : (allowance n p : ℕ) (s : Ends) (out : List Bracket) → p + n ≡ places → P #0 → All s → Values out → Values (brackets (family_from ds es entries places allowance n p s out))
     unfolding family_from
-    from_kept allowance zero p s out h g old = old
-    from_kept allowance (suc n) p s out h g old =
+    from_kept allowance zero p s out h z g old = old
+    from_kept allowance (suc n) p s out h z g old =
         let b = bisection ds es entries places (p + 1) allowance (opened_at s p places) s in
         let k = bisection_kept (p + 1) allowance (opened_at s p places) s (open_kept p s (omega arith) g) g in
-        by_found Whole (λ (f : Family). Values f.brackets) b.found _ _ k.found old
-        (λ r w. from_kept allowance n (p + 1) _ _ (omega arith)
+        by_found Whole (λ (f : Family). Values (brackets f)) b.found _ k.found (λ _. blanks z)
+        (λ r w. from_kept allowance n (p + 1) _ _ (omega arith) z
         (record { lows = λ q hq. stored P nan b.ends.lowers p q r.lower (k.left.lows q hq) (λ _. w.1.0); highs = k.left.highs })
         (λ q hq. stored (λ (b : Bracket). P b.value) no_bracket out p q r (old q hq) (λ _. w.0)))
 
-    family_kept : (allowance : ℕ) (bounds : Bounds) → places ≤ 100 → P #0 → P bounds.lower → P bounds.upper → Values (bisected_family ds es entries places allowance bounds).brackets
-    unfolding bisected_family blank_bracket
+    family_kept : (allowance : ℕ) (bounds : Bounds) → places ≤ 100 → P #0 → P bounds.lower → P bounds.upper → Values (brackets (bisected_family ds es entries places allowance bounds))
+    unfolding bisected_family
     family_kept allowance bounds h z low high =
-        from_kept allowance places 0 _ _ (omega arith)
+        from_kept allowance places 0 _ _ (omega arith) z
         (record {
           lows = λ q hq. subst P (sym (get_or-replicate 100 q bounds.lower nan (omega arith))) low;
           highs = λ q hq. subst P (sym (get_or-replicate 100 q bounds.upper nan (omega arith))) high;
         })
-        (λ q hq. subst (λ (b : Bracket). P b.value) (sym (get_or-replicate 100 q blank_bracket no_bracket hq)) z)
+        (blanks z)
 
   pub row_kept : (m n : ℕ) (cs : Float) (entries allowance : ℕ) → n < m + 200 → P #0
       → ((parity : ℕ) → parity < 2 → let b = bounds_of (diagonal m parity cs entries) (off_diagonal m parity cs entries) entries in P b.lower × P b.upper)
@@ -110,5 +114,5 @@ module _ (P : Float → Type 0) (mid : (u l : Float) → P u → P l → P ((u �
   row_kept m n cs entries allowance h z b j hj =
       cases (λ (b : Bracket). P b.value) (eqb (j % 2) 0) _ _ (λ _. family 0 (omega arith) _ (omega arith)) (λ _. family 1 (omega arith) _ (omega arith))
     where
-      family : (parity : ℕ) → parity < 2 → (q : ℕ) → q < 100 → P (get_or (family_of m parity cs entries ((n - m + 2) / 2) allowance).brackets q no_bracket).value
+      family : (parity : ℕ) → parity < 2 → (q : ℕ) → q < 100 → P (get_or (brackets (family_of m parity cs entries ((n - m + 2) / 2) allowance)) q no_bracket).value
       family parity p = family_kept _ _ entries ((n - m + 2) / 2) allowance _ (omega arith) z (b parity p).0 (b parity p).1

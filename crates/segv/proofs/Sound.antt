@@ -22,22 +22,22 @@ use Rattle.sturm.proofs.Stored.{stored}
 use Rattle.arith.specs.Double.{at}
 use Rattle.arith.specs.Choice.{lesser, greater}
 use Rattle.segv.specs.declared.bisection.Bracket.{Bracket}
-use Rattle.segv.specs.declared.bisection.Search.{Search}
-use Rattle.segv.specs.declared.bisection.Search.TheVariants.{Converged, OutOfSteps}
-use Rattle.segv.specs.declared.families.Family.{Family}
-use Rattle.segv.specs.Bisection.{Ends, Outcome, bisection, with_midpoint, converged, tighten, tighten_others, tighten_counted}
-use Rattle.segv.specs.Families.{first_below, raised, opened_at, family_from, on_search, bisected_family, blank_bracket, family_of, both_families, either_stopped}
+use Rattle.segv.specs.declared.bisection.OutOfSteps.{OutOfSteps}
+use Rattle.std.specs.Prelude.{Ok, Err}
+use Rattle.segv.specs.declared.ends.Ends.{Ends}
+use Rattle.segv.specs.Bisection.{Search, Outcome, bisection, with_midpoint, converged, tighten, tighten_others, tighten_counted}
+use Rattle.segv.specs.Families.{Family, stopped, brackets, first_below, raised, opened_at, family_from, on_search, bisected_family, blank_bracket, family_of, both_families, either_stopped}
 use Rattle.segv.specs.Row.{no_bracket, mode_at}
 use Rattle.segv.specs.Sound.{Below, Above, counted_at, any_substituted, OwnCounts, Sound, SoundIn}
 
 -- ---- what a search found
 abbrev pub Found : (Bracket → Type 0) → Search → Type 0
-Found P (Converged r) = P r
-Found P OutOfSteps = Unit {0}
+Found P (Ok r) = P r
+Found P (Err e) = Unit {0}
 
-pub by_found : (P : Bracket → Type 0) (Q : Family → Type 0) (f : Search) (left : Family) (next : Bracket → Family) → Found P f → Q left → ((r : Bracket) → P r → Q (next r)) → Q (on_search f left next)
-by_found P Q (Converged r) left next h a b = b r h
-by_found P Q OutOfSteps left next h a b = a
+pub by_found : (P : Bracket → Type 0) (Q : Family → Type 0) (f : Search) (next : Bracket → Family) → Found P f → ((e : OutOfSteps) → Q (Err e)) → ((r : Bracket) → P r → Q (next r)) → Q (on_search f next)
+by_found P Q (Ok r) next h a b = b r h
+by_found P Q (Err e) next h a b = a e
 
 module _ (ds es : List Float) (entries : ℕ) (bounds : Bounds) (allowance : ℕ) where
   abbrev Lo : ℕ → Float → Type 0
@@ -179,7 +179,7 @@ module _ (ds es : List Float) (entries : ℕ) (bounds : Bounds) (allowance : ℕ
   Sounds n out = (q : ℕ) → q < n → Sound ds es entries bounds allowance (q + 1) (get_or out q no_bracket)
 
   abbrev Fine : ℕ → Family → Type 0
-  Fine places f = f.stopped ≡ false → Sounds places f.brackets
+  Fine places f = stopped f ≡ false → Sounds places (brackets f)
 
   one_more : (p : ℕ) (out : List Bracket) (r : Bracket) → p < length out → Sound ds es entries bounds allowance (p + 1) r → Sounds p out → Sounds (p + 1) (set out p r)
   one_more p out r h new old q hq = pick (ℕ_discrete q p)
@@ -195,8 +195,8 @@ module _ (ds es : List Float) (entries : ℕ) (bounds : Bounds) (allowance : ℕ
   from_sound places hp hl (suc n) p s out hn ho g old =
       let b = bisection ds es entries places (p + 1) allowance (opened_at s p places) s in
       let k : Held places (p + 1) b = bisection_sound places (p + 1) (opened_at s p places) hp (omega arith) allowance (opened_at s p places) s (zero-add allowance) (record { steps = zero-add _; flag = refl }) (open_good places p s (omega arith) g) g in
-      by_found (Sound ds es entries bounds allowance (p + 1)) (Fine places) b.found _ _ k.found
-      (λ e. not_left e)
+      by_found (Sound ds es entries bounds allowance (p + 1)) (Fine places) b.found _ k.found
+      (λ _ e. not_left e)
       (λ r h. from_sound places hp hl n (p + 1) _ _ (omega arith) (length-set out p r ∙ ho)
       (record {
         lows = λ q hq. stored (Lo (q + 1)) nan b.ends.lowers p q r.lower (k.left.lows q hq) (λ eq. rw eq h.below);
@@ -215,8 +215,8 @@ module _ (ds es : List Float) (entries : ℕ) (bounds : Bounds) (allowance : ℕ
       (λ q hq. absurd (omega arith))
 
 pub family_sound : (m parity : ℕ) (cs : Float) (entries places allowance : ℕ) → 0 < places → places ≤ 100
-    → (family_of m parity cs entries places allowance).stopped ≡ false
-    → (q : ℕ) → q < places → SoundIn m parity cs entries allowance (q + 1) (get_or (family_of m parity cs entries places allowance).brackets q no_bracket)
+    → stopped (family_of m parity cs entries places allowance) ≡ false
+    → (q : ℕ) → q < places → SoundIn m parity cs entries allowance (q + 1) (get_or (brackets (family_of m parity cs entries places allowance)) q no_bracket)
 unfolding family_of
 family_sound m parity cs entries places allowance hp hl h q hq = all_sound _ _ entries _ allowance places hp hl h q hq
 

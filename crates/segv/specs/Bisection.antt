@@ -1,13 +1,13 @@
 -- The bisection of one place. 'Place' is document 01's word: the number, from 1, of a characteristic value among those of its parity. Definitions only.
-use Rattle.std.specs.Prelude.{ℕ, zero, suc, ◌+◌, ◌-◌, Bool, cond, ◌||◌, List, ltb, leb, Float, set}
+use Rattle.std.specs.Prelude.{ℕ, zero, suc, ◌+◌, ◌-◌, Bool, cond, ◌||◌, List, ltb, leb, Float, set, Result, Ok, Err}
 use Rattle.std.specs.Float.Ieee.{lt}
 use Rattle.arith.specs.Double.{◌⊕◌, ◌⊖◌, ◌⊘◌, #2, #1e-14, at}
 use Rattle.arith.specs.Choice.{abs, lesser, greater}
 use Rattle.sturm.specs.declared.pivots.Count.{Count}
 use Rattle.sturm.specs.Pivots.{negative_pivots}
 use Rattle.segv.specs.declared.bisection.Bracket.{Bracket}
-use Rattle.segv.specs.declared.bisection.Search.{Search}
-use Rattle.segv.specs.declared.bisection.Search.TheVariants.{Converged, OutOfSteps}
+use Rattle.segv.specs.declared.bisection.OutOfSteps.{OutOfSteps}
+use Rattle.segv.specs.declared.ends.Ends.{Ends}
 
 -- ---- a place's own bracket
 
@@ -32,11 +32,7 @@ tighten count place r =
 
 -- ---- the brackets of the other places
 
--- the ends of all brackets of a parity; the place q has those at q − 1
-pub record Ends : Type 0 where
-  pub uppers : List Float
-  pub lowers : List Float
-
+-- `Ends` has the ends of all brackets of a parity; the place q has those at q − 1.
 -- Where a count makes the midpoint a place's upper, a count that reaches the number of places makes it the last place's upper too.
 -- A smaller count raises the lower of the place after the counted one to it, and lowers the upper of the counted place to it, where that tightens.
 unfoldable pub tighten_counted : ℕ → Count → Float → Ends → Ends
@@ -54,6 +50,10 @@ tighten_others places place count midpoint s = cond (leb place count.negative) (
 
 -- ---- the bisection
 
+-- what a bisection comes to: a bracket that converged, or that the place is out of steps
+abbrev pub Search : Type 0
+Search = Result Bracket OutOfSteps
+
 -- what a bisection found, and the ends as it leaves them
 pub record Outcome : Type 0 where
   pub found : Search
@@ -63,9 +63,9 @@ pub record Outcome : Type 0 where
 module _ (ds es : List Float) (entries places : ℕ) where
   -- With an allowance of so many steps: the passing step's bracket is the one that its test used. Where no step is left, the place is out of steps.
   unfoldable pub bisection : ℕ → ℕ → Bracket → Ends → Outcome
-  bisection place zero r s = record { found = OutOfSteps; ends = s }
+  bisection place zero r s = record { found = Err (record {}); ends = s }
   bisection place (suc left) r s =
       let tested = with_midpoint r in
       let count = negative_pivots ds es entries tested.value in
       let later = bisection place left (tighten count place tested) (tighten_others places place count tested.value s) in
-      cond (converged tested) (record { found = Converged tested; ends = s }) later
+      cond (converged tested) (record { found = Ok tested; ends = s }) later

@@ -1,8 +1,9 @@
 -- The row of the modes from m to n, in a caller's five slices. Definitions only.
-use Rattle.std.specs.Prelude.{ℕ, zero, suc, ◌/◌, ◌%◌, Bool, false, cond, List, eqb, Float, set, get_or}
+use Rattle.std.specs.Prelude.{ℕ, zero, suc, ◌/◌, ◌%◌, Bool, false, cond, List, eqb, Float, set, get_or, Result, is_err}
 use Rattle.std.specs.Float.{nan}
 use Rattle.segv.specs.declared.bisection.Bracket.{Bracket}
-use Rattle.segv.specs.Families.{Families, either_stopped}
+use Rattle.segv.specs.declared.bisection.OutOfSteps.{OutOfSteps}
+use Rattle.segv.specs.Families.{Families, brackets, either_stopped}
 
 -- what a list of brackets has past its end
 abbrev pub no_bracket : Bracket
@@ -10,7 +11,7 @@ no_bracket = record { value = nan; lower = nan; upper = nan; steps = 0; substitu
 
 -- the mode at offset j has place j/2 + 1, whole division, among those of its parity
 unfoldable pub mode_at : Families → ℕ → Bracket
-mode_at r j = cond (eqb (j % 2) 0) (get_or r.even.brackets (j / 2) no_bracket) (get_or r.odd.brackets (j / 2) no_bracket)
+mode_at r j = cond (eqb (j % 2) 0) (get_or (brackets r.even) (j / 2) no_bracket) (get_or (brackets r.odd) (j / 2) no_bracket)
 
 -- ---- the caller's slices
 
@@ -50,6 +51,10 @@ pub record Numbered (A : Type 0) : Type 0 where
 
 abbrev pub answer : {A : Type 0} → ℕ → A → Numbered A
 answer k x = record { number = k; after = x }
+
+-- the refusal's number of what `segv` answers
+abbrev pub number_of : {A : Type 0} → Result A OutOfSteps → ℕ
+number_of r = cond (is_err r) 10 0
 
 -- refused 10, the slices stay as they were
 unfoldable pub segv_row : Families → ℕ → Slices → Numbered Slices

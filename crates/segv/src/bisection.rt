@@ -1,13 +1,26 @@
 // The bisection of one place.
-ghost use Rattle.std.specs.Prelude.{◌≡◌, ◌<◌, ◌≤◌};
+ghost use Rattle.std.specs.Prelude.{◌≡◌, true, false, ◌<◌, ◌≤◌};
 ghost use Rattle.segv.specs.Bisection as Bisection;
-ghost use Rattle.segv.specs.Inside.Arrays.{ends};
-ghost use Rattle.segv.specs.Inside.Ahead.{midpoints_ahead, counts_after};
+ghost use Rattle.segv.specs.Inside.Ahead.{midpoints_ahead, half_of, counts_after};
 ghost use Rattle.sturm.specs.Pivots.{negative_pivots};
 ghost use Rattle.sturm.specs.Inside.SevenShifts.{counts_at};
 
+use super::ends::Ends;
+
+// A place has used up its allowance of steps.
+#[derive(Clone, Copy, Debug, PartialEq, Eq)]
+pub struct OutOfSteps;
+
+// How many places a parity has, and how many steps each of them.
+#[derive(Clone, Copy, Debug)]
+pub struct Limits {
+    pub places: usize,
+    pub allowance: u32,
+    ghost few: { places ≤ 100 },
+}
+
 // A characteristic value with its bracket and its step number.
-#[derive(Clone, Copy)]
+#[derive(Clone, Copy, Debug, PartialEq)]
 pub struct Bracket {
     pub value: f64,
     pub lower: f64,
@@ -15,13 +28,6 @@ pub struct Bracket {
     pub steps: u32,
     // Whether 1e-30 was put in for a zero pivot in a count made for this value.
     pub substituted: bool,
-}
-
-// What a bisection comes to.
-#[derive(Clone, Copy)]
-pub enum Search {
-    Converged(Bracket),
-    OutOfSteps,
 }
 
 impl Bracket {
@@ -32,10 +38,8 @@ impl Bracket {
     {
         Bracket {
             value: (self.upper + self.lower) / 2.0,
-            lower: self.lower,
-            upper: self.upper,
             steps: self.steps + 1,
-            substituted: self.substituted,
+            ..self
         }
     }
 
@@ -54,62 +58,28 @@ impl Bracket {
         let substituted = self.substituted | count.substituted;
         if count.negative < place {
             return Bracket {
-                value: self.value,
                 lower: self.value,
-                upper: self.upper,
-                steps: self.steps,
                 substituted,
+                ..self
             };
         }
         Bracket {
-            value: self.value,
-            lower: self.lower,
             upper: self.value,
-            steps: self.steps,
             substituted,
+            ..self
         }
     }
-}
-
-// What a count at x says of the other places' brackets: nothing where x became this place's lower
-// end.
-pub fn tighten_others(
-    uppers: &mut [f64; 100],
-    lowers: &mut [f64; 100],
-    count: sturm::Count,
-    place: usize,
-    places: usize,
-    x: f64,
-)
-    requires { (0 < place) × (place ≤ places) × (places ≤ 100) }
-    ensures uppers_after { uppers.new ≡ (Bisection.tighten_others places place count x (ends uppers.old lowers.old)).uppers }
-    ensures lowers_after { lowers.new ≡ (Bisection.tighten_others places place count x (ends uppers.old lowers.old)).lowers }
-{
-    let negative = count.negative;
-    if negative < place {
-        return;
-    }
-    if places <= negative {
-        uppers[places - 1] = x;
-        return;
-    }
-    let raised = arith::greater(lowers[negative], x);
-    let at = negative - 1;
-    let dropped = arith::lesser(uppers[at], x);
-    lowers[negative] = raised;
-    uppers[at] = dropped;
 }
 
 // The counts at the midpoint of r, which is its value, at the two midpoints that the next step may
 // come to, l in the lower half and h in the upper, and at the four of the step after.
-fn counts_ahead(d: &[f64; 300], e: &[f64; 300], entries: usize, r: Bracket) -> sturm::Counts
-    requires { entries ≤ 300 }
-    ensures { result ≡ counts_at (negative_pivots d.now e.now entries) (midpoints_ahead r) }
+fn counts_ahead(matrix: &sturm::Matrix, r: Bracket) -> sturm::Counts
+    ensures { result ≡ counts_at (negative_pivots matrix.now.d matrix.now.e matrix.now.entries) (midpoints_ahead r) }
 {
     let x = r.value;
     let l = (x + r.lower) / 2.0;
     let h = (r.upper + x) / 2.0;
-    let midpoints = sturm::Seven {
+    matrix.negative_pivots(sturm::Seven {
         x,
         l,
         h,
@@ -117,100 +87,91 @@ fn counts_ahead(d: &[f64; 300], e: &[f64; 300], entries: usize, r: Bracket) -> s
         lh: (x + l) / 2.0,
         hl: (h + x) / 2.0,
         hh: (r.upper + h) / 2.0,
-    };
-    sturm::negative_pivots(d, e, entries, midpoints)
+    })
 }
 
-// The counts that are left after a step: those of the half that the count at x leaves.
+// Those of seven that are left where a step takes the upper half, and nothing beyond.
+fn upper_half<A: Copy>(of: sturm::Seven<A>, nothing: A) -> sturm::Seven<A>
+    ensures { result ≡ half_of true nothing of }
+{
+    sturm::Seven {
+        x: of.h,
+        l: of.hl,
+        h: of.hh,
+        ll: nothing,
+        lh: nothing,
+        hl: nothing,
+        hh: nothing,
+    }
+}
+
+// And where it takes the lower.
+fn lower_half<A: Copy>(of: sturm::Seven<A>, nothing: A) -> sturm::Seven<A>
+    ensures { result ≡ half_of false nothing of }
+{
+    sturm::Seven {
+        x: of.l,
+        l: of.ll,
+        h: of.lh,
+        ll: nothing,
+        lh: nothing,
+        hl: nothing,
+        hh: nothing,
+    }
+}
+
+// The counts that are left after a step: those of the half that the count at x leaves. One branch for
+// numbers and flags.
 fn counts_after(counts: sturm::Counts, place: usize) -> sturm::Counts
     ensures { result ≡ counts_after place counts }
 {
-    let n = counts.negative;
-    let b = counts.substituted;
-    if n.x < place {
+    if counts.negative.x < place {
         return sturm::Counts {
-            negative: sturm::Numbers {
-                x: n.h,
-                l: n.hl,
-                h: n.hh,
-                ll: 0,
-                lh: 0,
-                hl: 0,
-                hh: 0,
-            },
-            substituted: sturm::Flags {
-                x: b.h,
-                l: b.hl,
-                h: b.hh,
-                ll: false,
-                lh: false,
-                hl: false,
-                hh: false,
-            },
+            negative: upper_half(counts.negative, 0),
+            substituted: upper_half(counts.substituted, false),
         };
     }
     sturm::Counts {
-        negative: sturm::Numbers {
-            x: n.l,
-            l: n.ll,
-            h: n.lh,
-            ll: 0,
-            lh: 0,
-            hl: 0,
-            hh: 0,
-        },
-        substituted: sturm::Flags {
-            x: b.l,
-            l: b.ll,
-            h: b.lh,
-            ll: false,
-            lh: false,
-            hl: false,
-            hh: false,
-        },
+        negative: lower_half(counts.negative, 0),
+        substituted: lower_half(counts.substituted, false),
     }
 }
 
-// The bisection of the place with this number, from the bracket `start` on; uppers and lowers have the
-// ends of all places' brackets. The allowance falls by one at each midpoint. A step's count is not
-// known before the step, but its midpoint is one of few: one pass counts for three steps, and takes
-// little longer than for one.
+// The bisection of the place with this number, from the bracket `start` on. The allowance falls by one
+// at each midpoint. A step's count is not known before the step, but its midpoint is one of few: one
+// pass counts for three steps, and takes little longer than for one. A call, since the compiler copies
+// the matrix once more where this is inlined: a small row took an eighth longer.
+#[inline(never)]
 pub(crate) fn bisect(
-    d: &[f64; 300],
-    e: &[f64; 300],
-    entries: usize,
-    places: usize,
+    matrix: &sturm::Matrix,
+    limits: Limits,
     place: usize,
-    allowance: u32,
     start: Bracket,
-    uppers: &mut [f64; 100],
-    lowers: &mut [f64; 100],
-) -> Search
-    requires { (entries ≤ 300) × (0 < place) × (place ≤ places) × (places ≤ 100) × (start.steps ≡ 0) }
-    ensures { record { found = result; ends = ends uppers.new lowers.new }
-        ≡ Bisection.bisection d.now e.now entries places place allowance start (ends uppers.old lowers.old) }
+    ends: &mut Ends,
+) -> Result<Bracket, OutOfSteps>
+    requires { (0 < place) × (place ≤ limits.places) × (start.steps ≡ 0) }
+    ensures { record { found = result; ends = ends.new }
+        ≡ Bisection.bisection matrix.now.d matrix.now.e matrix.now.entries limits.places place limits.allowance start ends.old }
 {
     let mut r = start;
-    let mut left = allowance;
     let mut counts = sturm::Counts::none();
     // for how many steps the counts are known
     let mut known: u32 = 0;
-    while 0 < left {
-        left = left - 1;
+    for _step in 0..limits.allowance {
         r = r.with_midpoint();
         if r.converged() {
-            return Search::Converged(r);
+            return Ok(r);
         }
         if known == 0 {
-            counts = counts_ahead(d, e, entries, r);
+            counts = counts_ahead(matrix, r);
             known = 3;
         }
         let x = r.value;
         let count = counts.at_x();
         r = r.tightened(count, place);
-        tighten_others(uppers, lowers, count, place, places, x);
+        ends.tighten_others(count, place, limits.places, x);
         counts = counts_after(counts, place);
         known = known - 1;
     }
-    Search::OutOfSteps
+    Err(OutOfSteps)
 }

@@ -4,9 +4,10 @@
 #![tactic(auto)]
 
 mod bisection;
+mod ends;
 mod families;
 mod row;
 
-pub use bisection::{Bracket, tighten_others};
-pub use families::{hundred, opened};
+pub use bisection::{Bracket, Limits, OutOfSteps};
+pub use ends::Ends;
 pub use row::segv;

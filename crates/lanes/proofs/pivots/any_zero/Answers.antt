@@ -9,13 +9,13 @@ use Rattle.lanes.proofs.Laws.{one_more}
 use Rattle.lanes.proofs.pivots.any_zero.Goals as goal
 
 pub loop-j-init : goal.loop-j-init
-loop-j-init c = (omega arith, λ h k l. absurd (omega arith))
+loop-j-init c = λ h k l. absurd (omega arith)
 
 pub loop-j-preserved : goal.loop-j-preserved
 loop-j-preserved c =
     let s = c.args.s.now in
     let l = c.loop-j in
-    (omega arith, λ h. let none = neither (eq (at s l.j) #0) l.zero h in one_more (λ k. eq (at s k) #0 ≡ false) l.j (l.invariant.1 none.1) none.0)
+    λ h. let none = neither (eq (at s l.j) #0) l.zero h in one_more (λ k. eq (at s k) #0 ≡ false) l.j (l.invariant none.1) none.0
 
 pub returns : goal.returns
-returns c = λ h j less. c.loop-j.invariant.1 h j (omega arith)
+returns c = λ h j less. c.loop-j.invariant h j (omega arith)

@@ -1,5 +1,4 @@
 -- `lanes::pivots::substitute` meets its contract. The invariant: the pivots before the j-th are divisors, and the others are what they were. Assumes nothing.
-use Prim.Native.Nat.{◌-◌, ◌≤◌}
 use lib.Ieee.{nan}
 use Rattle.arith.specs.Double.{at}
 use Rattle.sturm.specs.Pivots as Pivots
@@ -7,7 +6,4 @@ use Rattle.lanes.proofs.Laws.{Stored}
 use Rattle.lanes.proofs.pivots.substitute.Given as goal
 
 abbrev pub invariant-loop-j : goal.invariant-loop-j
-invariant-loop-j l = (l.j ≤ 8) × Stored nan (λ k. k) (λ k. Pivots.divisor (at l.initial.s k)) l.initial.s l.s l.j
-
-abbrev pub decreases-loop-j : goal.decreases-loop-j
-decreases-loop-j l = 8 - l.j
+invariant-loop-j l = Stored nan (λ k. k) (λ k. Pivots.divisor (at l.initial.s k)) l.initial.s l.s l.j

@@ -4,12 +4,12 @@ use Rattle.lanes.proofs.Laws.{none_stored, one_stored}
 use Rattle.last_values.proofs.running.midpoints.Goals as goal
 
 pub loop-j-init : goal.loop-j-init
-loop-j-init c = (omega arith, none_stored _ _ _ _)
+loop-j-init c = none_stored _ _ _ _
 
 pub loop-j-preserved : goal.loop-j-preserved
 loop-j-preserved c =
     let l = c.loop-j in
-    (omega arith, one_stored _ _ _ _ _ l.j _ l.invariant.1 (omega arith) (λ k less e. omega arith) c.midpoint.ensures)
+    one_stored _ _ _ _ _ l.j _ l.invariant (omega arith) (λ k less e. omega arith) c.midpoint.ensures
 
 pub returns : goal.returns
-returns c j less = c.loop-j.invariant.1.done j (omega arith)
+returns c j less = c.loop-j.invariant.done j (omega arith)

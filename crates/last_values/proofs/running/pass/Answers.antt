@@ -2,10 +2,7 @@
 use Rattle.last_values.proofs.Each.{went_one}
 use Rattle.last_values.proofs.running.pass.Goals as goal
 
-pub step_each-requires : goal.step_each-requires
-step_each-requires c = let pre = c.requires in (pre.1, pre.2, pre.3)
-
 pub returns : goal.returns
 returns c =
     let s = c.step_each.ensures in
-    record { went = went_one _ _ _ _ _ _ _ _ _ _ _ c.midpoints-shifts.result c.negative_pivots-negative.result s.eight c.midpoints-shifts.ensures c.negative_pivots-negative.ensures s.by_index; by_index = λ j l. (s.by_index j l).less }
+    record { went = went_one _ _ _ _ _ c.midpoints-shifts.result c.negative_pivots-negative.result s.eight c.midpoints-shifts.ensures c.negative_pivots-negative.ensures s.by_index; by_index = λ j l. (s.by_index j l).less }

@@ -10,30 +10,26 @@ use Rattle.segv.proofs.families.bisect_family.Goals as goal
 pub loop-p-init : goal.loop-p-init
 loop-p-init c = refl
 
-pub bisect-found-requires : goal.bisect-found-requires
+pub bisect-requires : goal.bisect-requires
 unfolding opened_at
-bisect-found-requires c = (search rules, search rules, search rules, search rules, rw c.opened-start.ensures)
+bisect-requires c = (search rules, search rules, rw c.opened-start.ensures)
 
-pub returns-in_default : goal.returns-in_default
-returns-in_default c =
+pub returns-in_err-r : goal.returns-in_err-r
+returns-in_err-r c =
     let l = c.loop-p in
     let a = c.args in
-    let b = c.bisect-found in
-    let m = laws.one_out_of_steps _ _ _ _ _ (a.places - l.p) (a.places - (l.p + 1)) _ _ _ _ l.out _ (omega arith) c.opened-start.ensures b.ensures c.in_default.is in
-    let s = c.before in
-    sym m ∙ l.invariant ∙ laws.from_first _ _ _ _ _ _ _ _ _ s.hundred-uppers.ensures s.hundred-lowers.ensures s.blank_brackets-out.ensures
+    let m = laws.one_out_of_steps _ _ _ _ _ (a.limits.places - l.p) (a.limits.places - (l.p + 1)) _ _ _ _ l.out _ _ (omega arith) c.opened-start.ensures c.bisect.ensures (c.in_err-r.was) in
+    laws.is_out _ c.from_residual.ensures.0 ∙ sym m ∙ l.invariant ∙ laws.from_first _ _ _ _ _ _ _ _ c.within-ends.ensures c.blank_brackets-out.ensures
 
 pub loop-p-preserved : goal.loop-p-preserved
 loop-p-preserved c =
     let l = c.loop-p in
     let a = c.args in
-    let b = c.bisect-found in
-    let m = laws.one_found _ _ _ _ _ (a.places - l.p) (a.places - (l.p + 1)) _ _ _ _ l.out _ _ (omega arith) c.opened-start.ensures b.ensures c.in-Converged.is in
+    let m = laws.one_found _ _ _ _ _ (a.limits.places - l.p) (a.limits.places - (l.p + 1)) _ _ _ _ l.out _ _ (omega arith) c.opened-start.ensures c.bisect.ensures (c.in_ok-r.was) in
     sym m ∙ l.invariant
 
 pub returns : goal.returns
 returns c =
     let l = c.loop-p in
-    let s = c.before in
-    let e : s.args.places - l.p ≡ 0 = omega arith in
-    sym (rw e (laws.all_found _ _ _ _ _ _ _ _)) ∙ l.invariant ∙ laws.from_first _ _ _ _ _ _ _ _ _ s.hundred-uppers.ensures s.hundred-lowers.ensures s.blank_brackets-out.ensures
+    let e : c.args.limits.places - l.p ≡ 0 = omega arith in
+    sym (rw e (laws.all_found _ _ _ _ _ _ _ _)) ∙ l.invariant ∙ laws.from_first _ _ _ _ _ _ _ _ c.within-ends.ensures c.blank_brackets-out.ensures

@@ -4,5 +4,5 @@ use Rattle.segv.proofs.families.family_of.Goals as goal
 
 pub returns : goal.returns
 returns c =
-    let fill = c.fill in
-    laws.family_is _ _ _ _ _ _ _ _ _ _ c.bisect_family.ensures c.gershgorin-bounds.ensures fill.ensures.d_after fill.ensures.e_after
+    let f = c.family_matrix-matrix.ensures in
+    laws.family_is _ _ _ _ _ _ _ _ _ _ _ c.bisect_family.ensures c.gershgorin.ensures f.on_diagonal f.beside f.size
