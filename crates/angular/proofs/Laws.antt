@@ -1,35 +1,37 @@
 -- How the definitions of `aswfa` unfold, in the form in which the proofs of the code meet them. Assumes nothing.
-use Prim.Native.Nat.{ℕ, zero, suc, ◌+◌, ◌-◌, ◌/◌, ◌%◌, ◌<◌, ◌≤◌}
+use Prim.Native.Nat.{ℕ, zero, suc, ◌+◌, ◌-◌, ◌%◌, ◌<◌, ◌≤◌}
 use mathlib.Core.Path.{◌≡◌, refl, sym, ◌∙◌}
-use mathlib.Core.Bool.{Bool, true, false, cond}
+use mathlib.Core.Bool.{Bool, true, false, cond, ◌&&◌}
 use mathlib.Core.List.{List}
 use native.Mathlib.Omega.{arith}
-use borrow.Author.Tests.{eq-eqb, ne_eqb}
+use borrow.Author.Tests.{ne_eqb}
 use lib.Dec.{eqb}
 use lib.Ieee.{Float, eq}
 use Rattle.arith.specs.Double.{◌⊕◌, at, #0, #1}
 use Rattle.arith.specs.Choice.{abs}
-use Rattle.arith.specs.Powers.{power, half_power}
+use Rattle.arith.specs.Powers.{power}
+use Rattle.arith.proofs.Flags.{not_taken}
+use Rattle.expansion.specs.Products.{half_of_m}
 use Rattle.expansion.specs.Sdmn.{sdmn}
 use Rattle.expansion.specs.Sckb.{sckb}
-use Rattle.angular.specs.declared.aswfa.Pair.{Pair}
+use Rattle.expansion.specs.declared.values.Pair.{Pair}
 use Rattle.angular.specs.Inside.Stages.{Agree}
 use Rattle.angular.specs.Aswfa.{a0_of, negligible, summed, value_term, derivative_term, su1_of, su2_of, derivative_at_one, derivative_inside, before_signs, sign_at, aswfa, nm2_of}
 
 -- ---- x1 to the power m/2: the source's case of m = 0 and x1 = 0 is what the power rule gives
-pub a0_even : (m : ℕ) (x1 : Float) → m % 2 ≡ 0 → power x1 (m / 2) ≡ a0_of m x1
+pub a0_is : (m : ℕ) (x1 : Float) → half_of_m x1 m ≡ a0_of m x1
 unfolding a0_of power
-a0_even zero x1 h = go (eq x1 #0)
+a0_is zero x1 = go (eq x1 #0)
   where
     go : (t : Bool) → #1 ≡ cond t #1 #1
     go true = refl
     go false = refl
-a0_even (suc m) x1 h = rw (ne_eqb (suc m) 0 (λ (e : suc m ≡ 0). omega arith), eq-eqb (suc m % 2) 0 h)
+a0_is (suc m) x1 = rw (ne_eqb (suc m) 0 (λ (e : suc m ≡ 0). omega arith))
 
-pub a0_odd : (m : ℕ) (x1 : Float) → (m % 2 ≡ 0 → ⊥) → half_power x1 (m / 2) ≡ a0_of m x1
-unfolding a0_of
-a0_odd zero x1 h = absurd (h refl)
-a0_odd (suc m) x1 h = rw (ne_eqb (suc m) 0 (λ (e : suc m ≡ 0). omega arith), ne_eqb (suc m % 2) 0 h)
+-- ---- two flags that are both set
+pub both : (a b : Bool) → (a && b) ≡ true → (a ≡ true) × (b ≡ true)
+both true b h = (refl, h)
+both false b h = not_taken h
 
 -- ---- a term of a sum
 module _ (term : ℕ → Float) (left k : ℕ) (r su : Float) (is : r ≡ term k) where

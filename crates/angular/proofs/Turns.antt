@@ -8,7 +8,7 @@ use lib.Ieee.{Float, nan}
 use lib.ListN.{length, take, drop, set, length-append}
 use lib.Seq.{length-take-le, drop-cons, append_snoc, set_at}
 use Rattle.arith.specs.Double.{at}
-use Rattle.angular.specs.declared.aswfa.Pair.{Pair}
+use Rattle.expansion.specs.declared.values.Pair.{Pair}
 use Rattle.angular.specs.Inside.Turns.{in_turn}
 
 module _ (pair : Float → Pair) where

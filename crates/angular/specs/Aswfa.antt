@@ -3,11 +3,12 @@ use Rattle.std.specs.Prelude.{ℕ, zero, suc, ◌+◌, ◌-◌, ◌/◌, ◌%◌
 use Rattle.std.specs.Float.Ieee.{lt, eq, neg}
 use Rattle.arith.specs.Double.{◌⊕◌, ◌⊖◌, ◌⊗◌, ◌⊘◌, dbl, at, #0, #1, #2, #1e-14, #1e100}
 use Rattle.arith.specs.Choice.{abs}
-use Rattle.arith.specs.Powers.{power, half_power}
+use Rattle.arith.specs.Powers.{power}
+use Rattle.expansion.specs.Products.{half_of_m}
 use Rattle.expansion.specs.Terms.{cut_of}
 use Rattle.expansion.specs.Sdmn.{sdmn}
 use Rattle.expansion.specs.Sckb.{sckb}
-use Rattle.angular.specs.declared.aswfa.Pair.{Pair}
+use Rattle.expansion.specs.declared.values.Pair.{Pair}
 
 -- ---- how far the sums run. `offset` is n − m
 
@@ -20,7 +21,7 @@ nm2_of offset c = nm_of offset c / 2 - 2
 -- ---- x1 to the power m/2. The source's case of m = 0 at x1 = 0 changes nothing: the power rule gives 1 there too
 
 unfoldable pub a0_of : ℕ → Float → Float
-a0_of m x1 = cond (eqb m 0 && eq x1 #0) #1 (cond (eqb (m % 2) 0) (power x1 (m / 2)) (half_power x1 (m / 2)))
+a0_of m x1 = cond (eqb m 0 && eq x1 #0) #1 (half_of_m x1 m)
 
 -- ---- the two sums
 

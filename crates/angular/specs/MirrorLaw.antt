@@ -2,7 +2,7 @@
 use Rattle.std.specs.Prelude.{ℕ, ◌-◌, ◌%◌, ◌≡◌, true, cond, eqb, Float}
 use Rattle.std.specs.Float.Ieee.{lt, neg}
 use Rattle.arith.specs.Double.{#0}
-use Rattle.angular.specs.declared.aswfa.Pair.{Pair}
+use Rattle.expansion.specs.declared.values.Pair.{Pair}
 use Rattle.angular.specs.Aswfa.{aswfa}
 
 -- the value negated where n − m, here `offset`, is odd, and the derivative where it is even

@@ -1,16 +1,15 @@
 // How far the sums of the angular pair run.
-ghost use Rattle.std.specs.Prelude.{◌≡◌, true, false, ◌<◌, ◌≤◌};
-ghost use Rattle.std.specs.Float.Ieee.{lt};
-ghost use Rattle.arith.specs.Double.{#0};
-ghost use Rattle.expansion.specs.Terms as Terms;
+ghost use Rattle.std.specs.Prelude.{◌≡◌, ◌-◌, ◌<◌, ◌≤◌};
 ghost use Rattle.angular.specs.Aswfa as Aswfa;
 
-// The last term's number, for n - m and c.
-pub(crate) fn nm2_of(offset: u32, c: f64) -> u32
-    requires { (offset < 200) × (lt c #0 ≡ false) × (lt (Terms.h_of offset c) Terms.#175 ≡ true) }
-    ensures value { result ≡ Aswfa.nm2_of offset c }
+use expansion::terms::Mode;
+
+// The last term's number.
+#[tactic(auto, unfolding(crate::specs::Aswfa::nm2_of))]
+pub(crate) fn nm2_of(mode: Mode) -> u32
+    ensures value { result ≡ Aswfa.nm2_of (mode.n - mode.m) mode.c }
     ensures lower_bound { (18 ≤ result) × (result < 106) }
 {
-    let nm = 40 + expansion::terms::cut(offset, c);
+    let nm = 40 + mode.cut();
     nm / 2 - 2
 }

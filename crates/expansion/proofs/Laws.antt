@@ -13,12 +13,11 @@ use Rattle.arith.specs.Double.{◌⊕◌, ◌⊗◌, ◌⊘◌, dbl, at, #1e-10}
 use Rattle.arith.specs.Truncation.{whole_part}
 use Rattle.arith.proofs.Flags.{not_taken}
 use Rattle.arith.proofs.Laws.{whole_below}
-use Rattle.expansion.specs.declared.sdmn.Recurrence.{Recurrence}
 use Rattle.expansion.specs.declared.sckb.Partial.{Partial}
 use Rattle.expansion.specs.Sums.{settled, blank}
 use Rattle.expansion.specs.Terms.{h_of, clamped, #175}
 use Rattle.expansion.specs.Products.{rising}
-use Rattle.expansion.specs.Sdmn.{below, above, exceeds, reduced, reduced_places, stored_below, descend, descended, downward, climbed, ascended, upward, sum_past, factor_at, norm_of, normalised, scaled, expanded}
+use Rattle.expansion.specs.Sdmn.{Recurrence, below, above, exceeds, reduced, reduced_places, stored_below, descend, descended, downward, climbed, ascended, upward, sum_past, factor_at, norm_of, normalised, scaled, expanded}
 use Rattle.expansion.specs.declared.sckb.Carried.{Carried}
 use Rattle.expansion.specs.Sckb.{terms, sum_of, value_of, filled, regulator}
 use Rattle.expansion.specs.Inside.Carried.{Stands}

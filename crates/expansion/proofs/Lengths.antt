@@ -7,10 +7,9 @@ use lib.Dec.{eqb, ltb}
 use lib.Ieee.{Float, lt}
 use lib.ListN.{length, set, length-set, length-replicate}
 use Rattle.arith.specs.Double.{◌⊗◌, at, #0, #1, #1e-10, #1e-100}
-use Rattle.expansion.specs.declared.sdmn.Recurrence.{Recurrence}
 use Rattle.expansion.specs.Terms.{terms_of}
 use Rattle.expansion.specs.Sums.{blank}
-use Rattle.expansion.specs.Sdmn.{below, above, second, exceeds, too_large, reduced, reduced_places, scaled, stored_below, descend, descended, Downward, downward, climbed, ascended, upward, norm_of, normalised, expanded, recurrence_of, sdmn}
+use Rattle.expansion.specs.Sdmn.{Recurrence, below, above, second, exceeds, too_large, reduced, reduced_places, scaled, stored_below, descend, descended, Downward, downward, climbed, ascended, upward, norm_of, normalised, expanded, recurrence_of, sdmn}
 
 -- of either of two lists
 either : (t : Bool) (n : ℕ) (a b : List Float) → length a ≡ n → length b ≡ n → length (cond t a b) ≡ n

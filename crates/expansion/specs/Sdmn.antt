@@ -4,13 +4,19 @@ use Rattle.std.specs.Float.Ieee.{lt, neg}
 use Rattle.arith.specs.Double.{◌⊕◌, ◌⊖◌, ◌⊗◌, ◌⊘◌, dbl, at, #0, #0·5, #1, #1·5, #4, #1e-10, #1e-100, #1e100}
 use Rattle.arith.specs.Choice.{abs}
 use Rattle.sturm.specs.Entries.{entry_a, entry_d, entry_g}
-use Rattle.expansion.specs.declared.sdmn.Recurrence.{Recurrence}
 use Rattle.expansion.specs.declared.sdmn.Sum.{Sum}
 use Rattle.expansion.specs.Terms.{terms_of}
 use Rattle.expansion.specs.Products.{rising, rising_by}
 use Rattle.expansion.specs.Sums.{settled, blank}
 
--- ---- the recurrence: its a, d and g at place k, from 0 on, are those of document 01's row
+-- ---- the recurrence of one parity: its a, d and g at place k, from 0 on, are those of document 01's row
+
+-- ip is the parity of n − m
+pub record Recurrence : Type 0 where
+  pub m : ℕ
+  pub ip : ℕ
+  pub cs : Float
+  pub cv : Float
 
 abbrev pub a_at : Recurrence → ℕ → Float
 a_at r k = entry_a r.m (2 * k + r.ip) r.cs

@@ -8,3 +8,4 @@ pub mod sckb;
 pub mod sdmn;
 pub mod sums;
 pub mod terms;
+pub mod values;

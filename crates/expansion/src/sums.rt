@@ -3,6 +3,7 @@ ghost use Rattle.std.specs.Prelude.{◌≡◌};
 ghost use Rattle.expansion.specs.Sums as Sums;
 
 // The stopping test of a sum: it differs from the sum remembered, sw, by less than 1e-14 of itself.
+#[tactic(auto, unfolding(crate::specs::Sums::settled))]
 pub fn settled(sum: f64, sw: f64) -> bool
     ensures { result ≡ Sums.settled sum sw }
 {
@@ -11,10 +12,3 @@ pub fn settled(sum: f64, sw: f64) -> bool
 
 // Room for the coefficients of a mode.
 pub type Places = [f64; 200];
-
-// 200 zeros. Made by a call, an array is one value in the caller's proof.
-pub fn blank() -> Places
-    ensures { result ≡ Sums.blank }
-{
-    [0.0; 200]
-}

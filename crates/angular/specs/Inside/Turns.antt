@@ -1,6 +1,6 @@
 -- Pairs in a list of doubles. Definition only.
 use Rattle.std.specs.Prelude.{List, [], ◌∷◌, Float}
-use Rattle.angular.specs.declared.aswfa.Pair.{Pair}
+use Rattle.expansion.specs.declared.values.Pair.{Pair}
 
 -- the pair of each element, value and derivative in turn
 unfoldable pub in_turn : (Float → Pair) → List Float → List Float

@@ -2,7 +2,7 @@
 use Rattle.std.specs.Prelude.{ℕ, suc, ◌+◌, ◌-◌, ◌≡◌, true, false, List, Float}
 use Rattle.arith.specs.Double.{◌⊕◌, ◌⊗◌, at}
 use Rattle.expansion.specs.declared.four.Term.{Term}
-use Rattle.expansion.specs.declared.four.Terms.{Terms}
+use Rattle.expansion.specs.declared.four.Four.{Four}
 use Rattle.expansion.specs.declared.sckb.Partial.{Partial}
 use Rattle.expansion.specs.Sums.{settled}
 use Rattle.expansion.specs.Sckb.{next_factor, terms, first_factor}
@@ -24,7 +24,7 @@ unfoldable pub sum_from : List Float → ℕ → ℕ → ℕ → ℕ → Term �
 sum_from df m ip nm k t sw = elim (settled t.sum sw) [ true ↦ record { sum = t.sum; sw = sw } | false ↦ rest_of df m ip nm k (k + 2) t ]
 
 -- four sums that end alike, k from term i or from term j on, k + 1 from the next, and so on
-abbrev pub EndAlike : List Float → ℕ → ℕ → ℕ → ℕ → ℕ → Terms → ℕ → Terms → Type 0
+abbrev pub EndAlike : List Float → ℕ → ℕ → ℕ → ℕ → ℕ → Four Term → ℕ → Four Term → Type 0
 EndAlike df m ip nm k i t j u =
     (rest_of df m ip nm k i t.a ≡ rest_of df m ip nm k j u.a)
     × (rest_of df m ip nm (k + 1) (i + 1) t.b ≡ rest_of df m ip nm (k + 1) (j + 1) u.b)

@@ -17,7 +17,6 @@ use Rattle.angular.proofs.sums.su1_of.Goals as goal
 pub loop-k-init : goal.loop-k-init
 unfolding power su1_of
 loop-k-init c = (
-  omega arith,
   refl,
   λ ys same more. let h : suc (c.args.nm2 + more) - 1 ≡ c.args.nm2 + more = omega arith in rw (h, same 0 (omega arith)),
 )
@@ -27,23 +26,22 @@ returns-then-negligible c = let a = c.args in
     let l = c.loop-k in
     let all : (ys : List Float) → Agree (a.nm2 + 1) a.ck.now ys → (more : ℕ) → l.su1 ⊕ at a.ck.now l.k ⊗ l.p ≡ su1_of ys a.x1 (a.nm2 + more) = λ ys same more.
     let h : suc (a.nm2 + more) - l.k ≡ suc (a.nm2 + more - l.k) = omega arith in
-    summed_stop (value_term ys a.x1) (a.nm2 + more - l.k) l.k _ l.su1 (rw (l.invariant.1, same l.k (omega arith))) (sym c.negligible.ensures ∙ c.if-negligible.true) ∙ rw h at (l.invariant.2 ys same more) in
+    summed_stop (value_term ys a.x1) (a.nm2 + more - l.k) l.k _ l.su1 (rw (l.invariant.0, same l.k (omega arith))) (sym c.negligible.ensures ∙ c.if-negligible.true) ∙ rw h at (l.invariant.1 ys same more) in
     record { su_value = rw (add-zero a.nm2) at (all a.ck.now (λ i g. refl) 0); fact = λ e ys same more. sym (all ys same more) }
 
 pub loop-k-preserved : goal.loop-k-preserved
 unfolding power
 loop-k-preserved c = let a = c.args in
     let l = c.loop-k in (
-      omega arith,
-      rw (add-one l.k, l.invariant.1),
+      rw (add-one l.k, l.invariant.0),
       λ ys same more.
           let h : suc (a.nm2 + more) - l.k ≡ suc (a.nm2 + more - l.k) = omega arith in
           let h' : suc (a.nm2 + more) - suc l.k ≡ a.nm2 + more - l.k = omega arith in
-          rw (add-one l.k, h') (summed_on (value_term ys a.x1) (a.nm2 + more - l.k) l.k _ l.su1 (rw (l.invariant.1, same l.k (omega arith))) (sym c.negligible.ensures ∙ c.if-negligible.false) ∙ rw h at (l.invariant.2 ys same more)),
+          rw (add-one l.k, h') (summed_on (value_term ys a.x1) (a.nm2 + more - l.k) l.k _ l.su1 (rw (l.invariant.0, same l.k (omega arith))) (sym c.negligible.ensures ∙ c.if-negligible.false) ∙ rw h at (l.invariant.1 ys same more)),
     )
 
 pub returns : goal.returns
 unfolding summed
 returns c = let a = c.args in
     let h : suc (a.nm2 + 0) - c.loop-k.k ≡ 0 = omega arith in
-    record { su_value = rw (h, add-zero a.nm2) at (c.loop-k.invariant.2 a.ck.now (λ i g. refl) 0); fact = λ e. not_taken e }
+    record { su_value = rw (h, add-zero a.nm2) at (c.loop-k.invariant.1 a.ck.now (λ i g. refl) 0); fact = λ e. not_taken e }

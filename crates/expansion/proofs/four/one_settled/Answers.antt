@@ -1,16 +1,11 @@
 -- `expansion::four::one_settled` meets its contract. Assumes nothing.
 use mathlib.Core.Path.{sym, ◌∙◌}
-use Rattle.arith.proofs.Flags.{not_taken}
+use Rattle.arith.proofs.Flags.{neither}
 use Rattle.expansion.proofs.four.one_settled.Goals as goal
 
-pub returns-then-a : goal.returns-then-a
-returns-then-a c = λ h. not_taken (sym h)
-
-pub returns-then-b : goal.returns-then-b
-returns-then-b c = λ h. not_taken (sym h)
-
-pub returns-then-c : goal.returns-then-c
-returns-then-c c = λ h. not_taken (sym h)
-
 pub returns : goal.returns
-returns c = λ h. (sym c.settled-a.ensures ∙ c.if-a.false, sym c.settled-b.ensures ∙ c.if-b.false, sym c.settled-c.ensures ∙ c.if-c.false, sym c.settled-d.ensures ∙ h)
+returns c = λ h.
+    let r = neither _ _ h in
+    let q = neither _ _ r.0 in
+    let p = neither _ _ q.0 in
+    (sym c.settled-a.ensures ∙ p.0, sym c.settled-b.ensures ∙ p.1, sym c.settled-c.ensures ∙ q.1, sym c.settled-d.ensures ∙ r.1)

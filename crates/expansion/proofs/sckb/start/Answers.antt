@@ -5,4 +5,5 @@ use Rattle.arith.proofs.Exact.{half_power}
 use Rattle.expansion.proofs.sckb.start.Goals as goal
 
 pub returns : goal.returns
-returns c = (refl, rw (c.power.ensures, half_power c.args.m (omega arith)), refl, rw (← c.power_terms-nm.ensures.value, ← c.regulator.ensures) c.factorial.ensures)
+returns c = let s = c.of-sums in
+    (refl, rw (c.power.ensures, half_power c.args.mode.m (omega arith)), refl, rw (← s.ensures.2, ← s.ensures.0, ← s.result.regular) (rw (← s.ensures.0) at c.factorial.ensures))
