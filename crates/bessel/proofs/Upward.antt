@@ -1,9 +1,11 @@
 -- How the upward recurrence and `sphy` unfold, in the form in which the proofs of the code meet it. Assumes nothing.
-use Prim.Native.Nat.{ℕ, suc, ◌-◌}
-use mathlib.Core.Path.{◌≡◌, sym, ◌∙◌}
+use Prim.Native.Nat.{ℕ, zero, suc, ◌-◌, ◌≤◌}
+use mathlib.Core.Path.{◌≡◌, refl, sym, ap, ◌∙◌}
 use mathlib.Core.Bool.{true, false}
-use mathlib.Core.List.{List}
-use lib.ListN.{set}
+use mathlib.Core.List.{List, [], ◌∷◌, ◌++◌}
+use native.Mathlib.Omega.{arith}
+use lib.ListN.{set, length, take, drop, replicate}
+use Rattle.std.proofs.lemmas.List.{length-take-le}
 use lib.Ieee.{Float, neg, le}
 use Rattle.arith.specs.Double.{◌⊖◌, ◌⊗◌, ◌⊘◌, dbl, #1, #2, #1e300}
 use Rattle.arith.specs.Choice.{abs}
@@ -23,6 +25,21 @@ module _ (x : Float) (n left k : ℕ) (f0 f1 : Float) (s : List Float) where
   pub goes_on : (a : Float) → a ≡ abs next → le #1e300 a ≡ false → steps_up x n left (suc k) f1 next (set s k next) ≡ steps_up x n (suc left) k f0 f1 s
   unfolding steps_up
   goes_on a e h = sym (rw (rw e at h, steps_up))
+
+-- ---- the first places, each v
+filled_cons : (v x : Float) (k : ℕ) (xs : List Float) → filled v (suc k) (x ∷ xs) ≡ v ∷ filled v k xs
+unfolding filled
+filled_cons v x zero xs = refl
+filled_cons v x (suc k) xs = rw (filled_cons v x k xs)
+
+filled_front : (v : Float) (k : ℕ) (xs : List Float) → k ≤ length xs → replicate k v ++ drop k xs ≡ filled v k xs
+unfolding filled
+filled_front v zero xs h = refl
+filled_front v (suc k) [] h = absurd (omega arith)
+filled_front v (suc k) (x ∷ xs) h = ap (λ r. v ∷ r) (filled_front v k xs (omega arith)) ∙ sym (filled_cons v x k xs)
+
+pub front_filled : (v : Float) (k : ℕ) (xs ys : List Float) → k ≤ length xs → ys ≡ replicate (length (take k xs)) v → ys ++ drop k xs ≡ filled v k xs
+front_filled v k xs ys h e = rw (e, length-take-le k xs h) (filled_front v k xs h)
 
 -- ---- the highest order, the functions and their derivatives, in places b and b' that were zero
 module _ (x : Float) (n : ℕ) (b b' : List Float) (e : b ≡ blank) (e' : b' ≡ blank) where

@@ -1,5 +1,5 @@
 -- Spherical Bessel functions of the second kind (`sphy`), with the names of the source, for orders from 0 to an n of 2 or more: `rmn2l` asks for 50 or more. Definitions only.
-use Rattle.std.specs.Prelude.{ℕ, zero, suc, ◌-◌, Bool, true, false, cond, List, set, Float}
+use Rattle.std.specs.Prelude.{ℕ, zero, suc, ◌-◌, Bool, true, false, cond, List, set, Float, Result, Ok, Err}
 use Rattle.std.specs.Float.Ieee.{neg, lt, le}
 use Rattle.arith.specs.Double.{◌⊕◌, ◌⊖◌, ◌⊗◌, ◌⊘◌, dbl, #1, #2, #1e-60, #1e300}
 use Rattle.arith.specs.Choice.{abs}
@@ -30,6 +30,11 @@ pub record Recurrence : Type 0 where
   pub sy : List Float
   pub nm : ℕ
   pub whole : Bool
+
+-- the highest order that counts, as the code gives it: an `Err` where not all were reached
+unfoldable pub order_of : Result ℕ ℕ → ℕ
+order_of (Ok nm) = nm
+order_of (Err nm) = nm
 
 -- `left` more orders from k on; f0 and f1 are the last two functions. It ends where one reaches 1e300 in size, and that one counts no more. Where none does, the source leaves out the last order, n
 unfoldable pub steps_up : Float → ℕ → ℕ → ℕ → Float → Float → List Float → Recurrence

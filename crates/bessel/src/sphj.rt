@@ -5,13 +5,6 @@ ghost use Rattle.bessel.specs.Sphj as Sphj;
 // Room for orders up to 251.
 pub type Places = [f64; 252];
 
-// 252 zeros. Made by a call, an array is one value in the caller's proof.
-pub fn blank() -> Places
-    ensures { result ≡ Sphj.blank }
-{
-    [0.0; 252]
-}
-
 // Whether x is so small that the source takes it for zero.
 fn tiny(x: f64) -> bool
     ensures { result ≡ Sphj.tiny x }
@@ -19,8 +12,9 @@ fn tiny(x: f64) -> bool
     arith::abs(x) < 1e-100
 }
 
-// The highest order that is computed, and the one from which backward recurrence starts: 0 where it was
-// not found.
+// The highest order that is computed, and the one from which backward recurrence starts. Where that was
+// not found it is 0 and no Option: the recurrence runs from 0 then too, and the contract of
+// `routines_sphj` says what it gives.
 #[derive(Clone, Copy)]
 pub struct Orders {
     pub nm: u32,
@@ -32,12 +26,12 @@ fn searched_orders(x: f64, n: u32) -> Orders
     ensures value { result ≡ Sphj.searched_orders x n }
     ensures nm_le_n { (result.nm ≤ n) × (result.from ≤ 100010) }
 {
-    let m = super::msta1::msta1(x, 200);
+    let m = super::msta1::msta1(x, 200).unwrap_or(0);
     if m < n {
         return Orders { nm: m, from: m };
     }
-    let from = super::msta2::msta2(x, n, 15);
-    Orders { nm: n, from: from }
+    let from = super::msta2::msta2(x, n, 15).unwrap_or(0);
+    Orders { nm: n, from }
 }
 
 // The orders for the functions of order 0 to n at x.
@@ -66,7 +60,7 @@ fn lowest_orders(x: f64) -> Lowest
     let c = elementary::cosine(x);
     let sa = s / x;
     Lowest {
-        sa: sa,
+        sa,
         sb: (sa - c) / x,
         da: (c - sa) / x,
     }
@@ -87,9 +81,7 @@ fn recur(x: f64, nm: u32, from: u32, sj: &mut [f64; 252]) -> Last
 {
     let mut f0 = 0.0;
     let mut f1 = 1e-100;
-    let mut k = from + 1;
-    while 0 < k {
-        k = k - 1;
+    for k in (0..from + 1).rev() {
         let f = (2.0 * (k as f64) + 3.0) * f1 / x - f0;
         if k <= nm {
             sj[k as usize] = f;
@@ -97,7 +89,7 @@ fn recur(x: f64, nm: u32, from: u32, sj: &mut [f64; 252]) -> Last
         f0 = f1;
         f1 = f;
     }
-    Last { f0: f0, f1: f1 }
+    Last { f0, f1 }
 }
 
 // The common factor, from the greater of the functions of order 0 and 1.
@@ -115,10 +107,8 @@ fn scale(cs: f64, n: u32, sj: &mut [f64; 252])
     requires { n ≤ 252 }
     ensures { sj.new ≡ Sphj.scaled cs n sj.old }
 {
-    let mut k: u32 = 0;
-    while k < n {
-        sj[k as usize] = sj[k as usize] * cs;
-        k = k + 1;
+    for f in &mut sj[..n as usize] {
+        *f = *f * cs;
     }
 }
 
@@ -127,16 +117,15 @@ pub(crate) fn derive(x: f64, nm: u32, sj: &[f64; 252], dj: &mut [f64; 252])
     requires { nm < 252 }
     ensures { dj.new ≡ Sphj.derived x sj.now nm dj.old }
 {
-    let mut k: u32 = 0;
-    while k < nm {
-        let before = sj[k as usize];
-        k = k + 1;
-        dj[k as usize] = before - (k as f64 + 1.0) * sj[k as usize] / x;
+    for k in 1..nm + 1 {
+        let here = k as usize;
+        dj[here] = sj[here - 1] - (k as f64 + 1.0) * sj[here] / x;
     }
 }
 
 // The functions of order 0 to n at x into sj and their derivatives into dj, which are zero before, up
-// to the highest order that `find_orders` gives; above it both stay zero.
+// to the highest order that `find_orders` gives; above it both stay zero. Two arrays and a number, and
+// no struct of them: C lends them apart (`routines_sphj`), and n has the bounds of an index there.
 pub fn sphj(x: f64, n: u32, o: Orders, sj: &mut [f64; 252], dj: &mut [f64; 252])
     requires le_n { (2 ≤ n) × (n < 252) × (o ≡ Sphj.orders x n) }
     requires nm_le_n { (o.nm ≤ n) × (o.from ≤ 100010) }
@@ -149,16 +138,9 @@ pub fn sphj(x: f64, n: u32, o: Orders, sj: &mut [f64; 252], dj: &mut [f64; 252])
         dj[1] = 1.0 / 3.0;
         return;
     }
-    let nm = o.nm;
-    let from = o.from;
     let b = lowest_orders(x);
-    let sa = b.sa;
-    let sb = b.sb;
-    let da = b.da;
-    let last = recur(x, nm, from, sj);
-    let f0 = last.f0;
-    let f1 = last.f1;
-    scale(factor(sa, sb, f0, f1), nm + 1, sj);
-    dj[0] = da;
-    derive(x, nm, sj, dj);
+    let last = recur(x, o.nm, o.from, sj);
+    scale(factor(b.sa, b.sb, last.f0, last.f1), o.nm + 1, sj);
+    dj[0] = b.da;
+    derive(x, o.nm, sj, dj);
 }

@@ -1,15 +1,11 @@
 -- How the definitions of `kmn`, `qstar` and `cbk` unfold at one turn of a loop, in the form in which the proofs of the code meet them. Assumes nothing.
 use Prim.Native.Nat.{ℕ, zero, suc, ◌+◌, ◌-◌, ◌%◌, ◌≤◌, ◌<◌}
-use mathlib.Core.Path.{◌≡◌, refl, sym, ap, ◌∙◌}
-use mathlib.Core.Logic.{◌≢◌, ⊎_elim}
+use mathlib.Core.Path.{◌≡◌, refl, sym, ap}
 use mathlib.Core.Bool.{true, false}
 use mathlib.Core.List.{List}
 use native.Mathlib.Omega.{arith}
-use native.Mathlib.Numerals.{add-one}
-use native.Mathlib.Nat.{eq-or-lt_of_le}
-use lib.Ieee.{Float, nan, neg}
-use lib.ListN.{length, set}
-use lib.Seq.{get_or-set_same, get_or-set_other}
+use lib.Ieee.{Float, neg}
+use lib.ListN.{set}
 use Rattle.arith.specs.Double.{◌⊕◌, ◌⊖◌, ◌⊗◌, ◌⊘◌, at, #0}
 use Rattle.expansion.specs.Terms.{terms_of}
 use Rattle.expansion.specs.Sums.{settled, blank}
@@ -17,7 +13,7 @@ use Rattle.expansion.specs.declared.sckb.Partial.{Partial}
 use Rattle.joining.specs.declared.sums.Test.{Test}
 use Rattle.joining.specs.Sums.{next_factor, stops, sum_on}
 use Rattle.joining.specs.Qstar.{s_at, sk_of, r_of, ap_up_to}
-use Rattle.joining.specs.Cbk.{added, r1_at, s1_from, right_sides, v_at, w_at, Solved, solved, rows, eliminated, substituted, cbk}
+use Rattle.joining.specs.Cbk.{Solved, added, r1_at, s1_from, right_sides, v_at, w_at, solved, rows, eliminated, substituted, cbk}
 
 -- ---- a term of the sum over the expansion coefficients
 abbrev pub partial : Float → Float → Partial
@@ -38,31 +34,15 @@ module _ (test : Test) (df : List Float) (m ip half left k : ℕ) (r r' sum sw :
 abbrev pub Table : (ℕ → Float) → ℕ → List Float → Type 0
 Table f n xs = (q : ℕ) → q < n → at xs q ≡ f q
 
-pub table_none : (f : ℕ → Float) (xs : List Float) → Table f 0 xs
-table_none f xs q h = absurd (omega arith)
-
-pub table_more : (f : ℕ → Float) (i : ℕ) (xs : List Float) (v : Float) → i < length xs → Table f i xs → v ≡ f i → Table f (i + 1) (set xs i v)
-table_more f i xs v h t e q l = ⊎_elim here before (eq-or-lt_of_le {n = q} {m = i} (omega arith))
-  where
-    here : q ≡ i → at (set xs i v) q ≡ f q
-    here p = rw p (get_or-set_same xs i v nan h ∙ e)
-
-    apart : q < i → q ≢ i
-    apart g p = omega arith
-
-    before : q < i → at (set xs i v) q ≡ f q
-    before g = get_or-set_other xs i q v nan (apart g) ∙ t q g
-
 -- ---- the sum over l sees its sums sk up to the last term only
 pub same_sums : (f g : ℕ → Float) (ap : List Float) (i n : ℕ) → ((l : ℕ) → l ≤ n → f l ≡ g l) → s_at f ap i n ≡ s_at g ap i n
 unfolding s_at
 same_sums f g ap i zero e = refl
 same_sums f g ap i (suc n) e = rw (same_sums f g ap i n (λ l h. e l (omega arith)), e (suc n) (omega arith))
 
-pub ap_on : (ck ap sk : List Float) (i : ℕ) (s : Float) → ap ≡ ap_up_to ck i → ((l : ℕ) → l ≤ i + 1 → at sk l ≡ sk_of ck l) → s ≡ s_at (λ l. at sk l) ap (i + 1) (i + 1)
-    → set ap (i + 1) (neg (r_of ck) ⊗ s) ≡ ap_up_to ck (i + 1)
+pub ap_on : (ck ap sk : List Float) (i j : ℕ) (s : Float) → i ≡ suc j → ap ≡ ap_up_to ck j → ((l : ℕ) → l ≤ i → at sk l ≡ sk_of ck l) → s ≡ s_at (λ l. at sk l) ap i i → set ap i (neg (r_of ck) ⊗ s) ≡ ap_up_to ck i
 unfolding ap_up_to
-ap_on ck ap sk i s ha hk hs = rw (hs, same_sums (λ l. at sk l) (λ l. sk_of ck l) ap (i + 1) (i + 1) hk, ha, add-one i)
+ap_on ck ap sk i j s e ha hk hs = rw (hs, same_sums (λ l. at sk l) (λ l. sk_of ck l) ap i i hk, ha, e)
 
 -- ---- a term of a right side, with its product at hand
 module _ (ck : List Float) (m ip k left i : ℕ) (p s s1 sw : Float) (is : p ≡ r1_at m i k) (hs : s ≡ added ck m ip i p s1) where
@@ -81,7 +61,7 @@ unfolding rows
 rows_on m ip cv u v x w bk s k e hv hx = rw (← e, ← hv, ← hx)
 
 -- ---- the disc's coefficients, from the right sides on
-pub cbk_is : (ck : List Float) (m n : ℕ) (c cv qt : Float) (nm : ℕ) (b w x y : List Float) → nm ≡ terms_of (n - m) c → b ≡ right_sides ck m ((n - m) % 2) nm qt (nm - 2) 0 #0 blank
-    → solved w x ≡ eliminated m ((n - m) % 2) cv (c ⊗ c) (nm - 2 - 1) b → y ≡ substituted w (nm - 2 - 1) x → y ≡ cbk ck m n c cv qt
+pub cbk_is : (ck : List Float) (m n : ℕ) (c cv qt : Float) (ip nm : ℕ) (b : List Float) (s : Solved) (y : List Float) → ip ≡ (n - m) % 2 → nm ≡ terms_of (n - m) c → b ≡ right_sides ck m ip nm qt (nm - 2) 0 #0 blank
+    → s ≡ eliminated m ip cv (c ⊗ c) (nm - 2 - 1) b → y ≡ substituted s.w (nm - 2 - 1) s.bk → y ≡ cbk ck m n c cv qt
 unfolding cbk
-cbk_is ck m n c cv qt nm b w x y hn hb he hy = rw (← hn, ← hb, ← he, hy)
+cbk_is ck m n c cv qt ip nm b s y hi hn hb he hy = rw (← hi, ← hn, ← hb, ← he, hy)

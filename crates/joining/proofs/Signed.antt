@@ -1,14 +1,14 @@
 -- The signed index k − m + 1, as the definition and the machine have it. Assumes nothing.
 use Prim.Native.Nat.{ℕ, zero, suc, ◌+◌, ◌-◌, ◌≤◌, ◌<◌}
-use mathlib.Core.Path.{◌≡◌, refl, sym, ap, subst, ◌∙◌}
+use mathlib.Core.Path.{◌≡◌, refl, sym, ap, ◌∙◌}
 use mathlib.Core.Logic.{◌⊎◌, inl, inr, ⊎_elim}
 use mathlib.Core.Bool.{Bool, true, false}
 use native.Mathlib.Omega.{arith}
 use native.Mathlib.Nat.{add-zero, sub-zero}
 use borrow.Author.Tests.{ltb-true, ltb-false, lt-ltb, le-ltb}
-use lib.Dec.{T, ltb}
+use lib.Dec.{ltb}
 use lib.IntN.{ℤ, pos, negsuc, nat_abs, ◌+ℤ◌, ◌-ℤ◌}
-use lib.Signed.{mag, lt_z, non_neg}
+use lib.Signed.{mag, lt_z}
 use mir.Syntax.{w32}
 use mir.Val.{to_z, of_z, SFits}
 use mir.Facts.{to_z-of_z, to_z_pos}
@@ -86,10 +86,3 @@ module _ (k m : ℕ) (hk : k < 1000) (hm : m < 1000) where
     pub index_at : lt_z z (pos 0) ≡ false → nat_abs z ≡ first_index m k
     unfolding first_index
     index_at h = rw (rw e at h) (ap nat_abs e)
-
-    pub index_whole : lt_z z (pos 0) ≡ false → T (non_neg z) × (nat_abs z ≤ 1000)
-    index_whole h = (not_negative z h, rw (index_at h, first_is m k) (omega arith))
-      where
-        not_negative : (z : ℤ) → lt_z z (pos 0) ≡ false → T (non_neg z)
-        not_negative (pos n) h = tt
-        not_negative (negsuc n) h = subst T h tt

@@ -12,16 +12,16 @@ pub struct Factors {
     pub qt: f64,
 }
 
+// The bounds of l, m and i are those of an index: `qstar` takes m as a number.
+
 // The sum over k from 0 to l of ck[k] ck[l - k].
 fn sk_of(ck: &[f64; 200], l: u32) -> f64
     requires { l < 200 }
     ensures { result ≡ Qstar.sk_of ck.now l }
 {
     let mut sk = 0.0;
-    let mut k: u32 = 0;
-    while k <= l {
+    for k in 0..l + 1 {
         sk = sk + ck[k as usize] * ck[(l - k) as usize];
-        k = k + 1;
     }
     sk
 }
@@ -31,24 +31,20 @@ fn inner_sums(ck: &[f64; 200], m: u32) -> Places
     requires { m < 200 }
     ensures { (l : ℕ) → l ≤ m → at result l ≡ Qstar.sk_of ck.now l }
 {
-    let mut sk = expansion::sums::blank();
-    let mut l: u32 = 0;
-    while l <= m {
+    let mut sk = arith::filled(0.0);
+    for l in 0..m + 1 {
         sk[l as usize] = sk_of(ck, l);
-        l = l + 1;
     }
     sk
 }
 
-// The sum over l from 1 to i of sk[l] ap[i - l].
+// The sum over l from 1 to i of sk[l] ap[i - l]. Two arrays: the places that meet are not the same.
 fn s_of(sk: &[f64; 200], ap: &[f64; 200], i: u32) -> f64
     requires { i < 200 }
     ensures { result ≡ Qstar.s_at (λ l. at sk.now l) ap.now i i }
 {
     let mut s = 0.0;
-    let mut l: u32 = 0;
-    while l < i {
-        l = l + 1;
+    for l in 1..i + 1 {
         s = s + sk[l as usize] * ap[(i - l) as usize];
     }
     s
@@ -60,11 +56,9 @@ fn ap_of(ck: &[f64; 200], m: u32) -> Places
 {
     let sk = inner_sums(ck, m);
     let r = 1.0 / (ck[0] * ck[0]);
-    let mut ap = expansion::sums::blank();
+    let mut ap = arith::filled(0.0);
     ap[0] = r;
-    let mut i: u32 = 0;
-    while i < m {
-        i = i + 1;
+    for i in 1..m + 1 {
         let s = s_of(&sk, &ap, i);
         ap[i as usize] = -r * s;
     }
@@ -84,9 +78,7 @@ fn qs0_of(ap: &[f64; 200], m: u32, ip: u32) -> f64
 {
     let mut qs0 = ap[m as usize];
     let mut r = 1.0;
-    let mut l: u32 = 0;
-    while l < m {
-        l = l + 1;
+    for l in 1..m + 1 {
         r = next_product(ip, l, r);
         qs0 = qs0 + ap[(m - l) as usize] * r;
     }
@@ -104,7 +96,7 @@ fn parity_sign(ip: u32) -> f64
 }
 
 // qs and qt of the mode of order m and degree n; ck are its power coefficients and ck1 is its joining
-// factor.
+// factor. Numbers and no mode: `routines_qstar` lets C ask for more than the usable modes.
 pub fn qstar(ck: &[f64; 200], m: u32, n: u32, c: f64, ck1: f64) -> Factors
     requires { (m < 200) × (m ≤ n) }
     ensures { result ≡ Qstar.qstar ck.now m n c ck1 }

@@ -4,8 +4,9 @@ ghost use Rattle.joining.specs.Sums as Sums;
 
 use expansion::sckb::Partial;
 
-// How a sum over the expansion coefficients is held against the one before.
-#[derive(Clone, Copy)]
+// How a sum over the expansion coefficients is held against the one before. An enum and no closure: the
+// definitions go by these two names.
+#[derive(Clone, Copy, Debug, PartialEq, Eq)]
 pub enum Test {
     // By their difference over the sum: `kmn`.
     Quotient,
@@ -22,6 +23,9 @@ fn settled_by(test: Test, sum: f64, sw: f64) -> bool
     }
 }
 
+// m, ip, k and nm are numbers with bounds here and below, and no mode: these functions are public, and
+// ask less than a mode does.
+
 // The factor of the k-th coefficient in these sums, from that of the one before.
 pub fn next_factor(m: u32, ip: u32, k: u32, r: f64) -> f64
     requires { (m < 1000) × (ip < 2) × (k < 1000) }
@@ -36,11 +40,7 @@ pub fn next_factor(m: u32, ip: u32, k: u32, r: f64) -> f64
 pub fn stops(test: Test, half: u32, k: u32, sum: f64, sw: f64) -> bool
     ensures { result ≡ Sums.stops test half k sum sw }
 {
-    if half < k {
-        settled_by(test, sum, sw)
-    } else {
-        false
-    }
+    half < k && settled_by(test, sum, sw)
 }
 
 // The sum over nm expansion coefficients, and the sum remembered; reg is the regulator. A sum that has
@@ -60,15 +60,13 @@ pub fn expansion_partial(
     let mut r = expansion::products::rise(reg, 1, 2 * m + ip);
     let mut sum = r * df[0];
     let mut sw = 0.0;
-    let mut k: u32 = 2;
-    while k <= nm {
+    for k in 2..nm + 1 {
         r = next_factor(m, ip, k, r);
         sum = sum + r * df[(k - 1) as usize];
         if stops(test, half, k, sum, sw) {
             return Partial { sum, sw };
         }
         sw = sum;
-        k = k + 1;
     }
     Partial { sum, sw }
 }

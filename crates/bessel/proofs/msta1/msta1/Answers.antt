@@ -2,6 +2,6 @@
 use Rattle.bessel.specs.Msta1.{msta1}
 use Rattle.bessel.proofs.msta1.msta1.Goals as goal
 
-pub returns : goal.returns
+pub returns-clause-value : goal.returns-clause-value
 unfolding msta1
-returns c = record { value = rw (c.searched.ensures.value, c.first_order.ensures, c.abs-a0.ensures); upper_bound = c.searched.ensures.upper_bound }
+returns-clause-value c = rw (c.searched.ensures.value, c.first_order.ensures, c.abs-a0.ensures)

@@ -1,28 +1,31 @@
 -- `bessel::secant::searched` meets its contract. Assumes nothing.
-use mathlib.Core.Path.{sym, ◌∙◌}
+use mathlib.Core.Path.{◌∙◌}
 use native.Mathlib.Omega.{arith}
-use Rattle.bessel.proofs.Laws.{first_refused, second_refused, both_tried, tried_most}
+use Rattle.bessel.proofs.Laws.{may, may_not, first_refused, second_refused, both_tried, tried_bounds}
 use Rattle.bessel.proofs.secant.searched.Goals as goal
 
-pub returns-then-not-may_try : goal.returns-then-not-may_try
-returns-then-not-may_try c = record { value = first_refused _ _ _ (sym c.may_try.ensures ∙ c.if-not-may_try.true); upper_bound = omega arith }
+pub returns-in_err-first-clause-value : goal.returns-in_err-first-clause-value
+returns-in_err-first-clause-value c = rw c.from_residual.ensures (first_refused _ _ _ (may_not _ _ c.tried.ensures c.in_err-first.was))
 
-pub overflow_add-n0 : goal.overflow_add-n0
-overflow_add-n0 c = let h = tried_most _ (sym c.may_try.ensures ∙ c.if-not-may_try.false) in omega (arith, h)
+pub overflow_add-first : goal.overflow_add-first
+overflow_add-first c =
+    let t = may _ _ _ c.tried.ensures c.in_ok-first.was in
+    let b = tried_bounds _ (rw t.1 at t.0) in
+    omega (arith, b)
 
-pub returns-then-not-may_try-2 : goal.returns-then-not-may_try-2
-returns-then-not-may_try-2 c =
-    record { value = second_refused _ _ _ (sym c.may_try.ensures ∙ c.if-not-may_try.false) (sym c.may_try-2.ensures ∙ c.if-not-may_try-2.true); upper_bound = omega arith }
-
-pub overflow_add-n0-2 : goal.overflow_add-n0-2
-overflow_add-n0-2 c = let h = tried_most _ (sym c.may_try-2.ensures ∙ c.if-not-may_try-2.false) in omega (arith, h)
+pub returns-in_err-second-clause-value : goal.returns-in_err-second-clause-value
+returns-in_err-second-clause-value c =
+    let t = may _ _ _ c.tried.ensures c.in_ok-first.was in
+    rw (c.from_residual-in_err-second.ensures, t.1) (second_refused _ _ _ (rw t.1 at t.0) (may_not _ _ c.tried-2.ensures c.in_err-second.was))
 
 pub secant-requires : goal.secant-requires
-secant-requires c = tried_most _ (sym c.may_try-2.ensures ∙ c.if-not-may_try-2.false)
+secant-requires c = let t = may _ _ _ c.tried-2.ensures c.in_ok-second.was in tried_bounds _ (rw t.1 at t.0)
 
 pub returns : goal.returns
 returns c =
+    let t = may _ _ _ c.tried.ensures c.in_ok-first.was in
+    let t' = may _ _ _ c.tried-2.ensures c.in_ok-second.was in
     record {
-      value = c.secant.ensures.value ∙ both_tried _ _ _ (sym c.may_try.ensures ∙ c.if-not-may_try.false) (sym c.may_try-2.ensures ∙ c.if-not-may_try-2.false);
-      upper_bound = c.secant.ensures.upper_bound;
+      value = rw (← t'.1, ← t.1) at c.secant.ensures.value ∙ both_tried _ _ _ t.0 (rw (← t.1) at t'.0);
+      some_bounds = c.secant.ensures.some_bounds;
     }

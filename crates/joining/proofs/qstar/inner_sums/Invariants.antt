@@ -1,5 +1,4 @@
--- `joining::qstar::inner_sums` meets its contract. The invariant: the first l sums are kept. Assumes nothing.
-use Prim.Native.Nat.{◌+◌, ◌-◌, ◌≤◌}
+-- `joining::qstar::inner_sums` meets its contract. The invariant: the sums below l are there. Assumes nothing.
 use mathlib.Core.Path.{◌≡◌}
 use lib.ListN.{length}
 use Rattle.joining.specs.Qstar.{sk_of}
@@ -7,7 +6,4 @@ use Rattle.joining.proofs.Laws.{Table}
 use Rattle.joining.proofs.qstar.inner_sums.Given as goal
 
 abbrev pub invariant-loop-l : goal.invariant-loop-l
-invariant-loop-l l = (l.l ≤ l.m + 1) × (length l.sk ≡ 200) × Table (λ q. sk_of l.ck q) l.l l.sk
-
-abbrev pub decreases-loop-l : goal.decreases-loop-l
-decreases-loop-l l = l.m + 1 - l.l
+invariant-loop-l l = (length l.sk ≡ 200) × Table (λ q. sk_of l.ck q) l.l l.sk

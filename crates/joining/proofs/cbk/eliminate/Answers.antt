@@ -1,7 +1,0 @@
--- `joining::cbk::eliminate` meets its contract. Assumes nothing.
-use Rattle.joining.specs.Cbk.{eliminated}
-use Rattle.joining.proofs.cbk.eliminate.Goals as goal
-
-pub returns : goal.returns
-unfolding eliminated
-returns c = rw (← c.w_at.ensures, ← c.v_at-v.ensures, ← c.requires.2) c.eliminate_rows.ensures
