@@ -7,21 +7,18 @@ use lib.Ieee.{Float, le, lt, eq, of_bits}
 use Rattle.arith.specs.Double.{◌⊘◌, at, #0, #1e-280, #1e-8, #1e300}
 use Rattle.arith.specs.Choice.{abs}
 use Rattle.arith.proofs.Zeros.{zero_not_above}
+use Rattle.std.specs.Prelude.{Option, Some, None}
 use Rattle.expansion.specs.Sckb.{sckb}
+use Rattle.expansion.specs.declared.values.Pair.{Pair}
 use Rattle.joining.specs.Kmn.{kmn}
 use Rattle.joining.specs.declared.qstar.Factors.{Factors}
 use Rattle.joining.specs.Qstar.{qstar}
 use Rattle.joining.specs.Cbk.{cbk}
-use Rattle.radial_sums.specs.declared.rmn1.Pair.{Pair}
-use Rattle.radial_sums.specs.declared.rmn1.First.{First}
-use Rattle.radial_sums.specs.declared.rmn1.First.TheVariants.{Known, NoOrder}
-use Rattle.radial_sums.specs.declared.rmn2l.Large.{Large}
 use Rattle.radial_sums.specs.Limits.{second_terms}
 use Rattle.radial_sums.specs.Rmn1.{powers_sum, on_disc, off_disc, rmn1}
 use Rattle.radial_sums.specs.Rmn2l.{rmn2l}
 use Rattle.radial_sums.proofs.Laws.{at_zero, off_zero}
 use Rattle.radial.specs.declared.rswfo.Radial.{Radial}
-use Rattle.radial.specs.declared.rswfo.Kinds.TheVariants.{Both, Neither}
 use Rattle.radial.specs.Gmn.{gmn}
 use Rattle.radial.specs.Rmn2so.{combined, turned, rmn2so}
 use Rattle.radial.specs.Rswfo.{kept_or, by_so, second_kind, with_second}
@@ -44,9 +41,13 @@ module _ (df ck : List Float) (m n : ℕ) (c cv x : Float) (r1 : Pair) (a : Floa
 
 -- ---- the choice between `rmn2l` and it
 module _ (df : List Float) (m n : ℕ) (c cv x : Float) (r1 : Pair) where
-  pub tried : lt #1e-8 x ≡ true → (l : Large) (r : Pair) → l ≡ rmn2l df m n c x → r ≡ kept_or l (by_so df m n c cv x r1) → r ≡ second_kind df m n c cv x r1
-  unfolding second_kind
-  tried h l r hl hr = hr ∙ rw hl (sym (rw (h, second_kind)))
+  pub kept : lt #1e-8 x ≡ true → (r : Pair) → rmn2l df m n c x ≡ Some r → r ≡ second_kind df m n c cv x r1
+  unfolding second_kind kept_or
+  kept h r e = sym (rw (h, e, second_kind))
+
+  pub lost : lt #1e-8 x ≡ true → rmn2l df m n c x ≡ None → by_so df m n c cv x r1 ≡ second_kind df m n c cv x r1
+  unfolding second_kind kept_or
+  lost h e = sym (rw (h, e, second_kind))
 
   pub not_tried : lt #1e-8 x ≡ false → by_so df m n c cv x r1 ≡ second_kind df m n c cv x r1
   unfolding second_kind
@@ -59,22 +60,22 @@ zero_near x o = zero_not_above _ _ x o
 
 -- ---- both kinds
 module _ (df : List Float) (m n : ℕ) (c cv x : Float) where
-  pub both_on_disc : eq x #0 ≡ true → (b : Radial) → b.first ≡ on_disc df (sckb df m n c) m n c → b.second ≡ by_so df m n c cv x b.first → Both b ≡ with_second df m n c cv x (rmn1 df m n c x)
+  pub both_on_disc : eq x #0 ≡ true → (b : Radial) → b.first ≡ on_disc df (sckb df m n c) m n c → b.second ≡ by_so df m n c cv x b.first → Some b ≡ with_second df m n c cv x (rmn1 df m n c x)
   unfolding with_second
-  both_on_disc o b hf hs = both b.first b.second hf (hs ∙ not_tried df m n c cv x b.first (zero_near x o)) ∙ ap (λ (f : First). with_second df m n c cv x f) (at_zero df m n c x o)
+  both_on_disc o b hf hs = both b.first b.second hf (hs ∙ not_tried df m n c cv x b.first (zero_near x o)) ∙ ap (λ (f : Option Pair). with_second df m n c cv x f) (at_zero df m n c x o)
     where
-      both : (f s : Pair) → f ≡ on_disc df (sckb df m n c) m n c → s ≡ second_kind df m n c cv x f → Both (record { first = f; second = s }) ≡ with_second df m n c cv x (Known (on_disc df (sckb df m n c) m n c))
+      both : (f s : Pair) → f ≡ on_disc df (sckb df m n c) m n c → s ≡ second_kind df m n c cv x f → Some (record { first = f; second = s }) ≡ with_second df m n c cv x (Some (on_disc df (sckb df m n c) m n c))
       both f s hf hs = rw (hs, hf)
 
   pub both_off_disc : eq x #0 ≡ false → with_second df m n c cv x (off_disc df m n c x) ≡ with_second df m n c cv x (rmn1 df m n c x)
-  both_off_disc o = ap (λ (f : First). with_second df m n c cv x f) (off_zero df m n c x o)
+  both_off_disc o = ap (λ (f : Option Pair). with_second df m n c cv x f) (off_zero df m n c x o)
 
 -- off the disc, the first kind being found or not
-module _ (df : List Float) (m n : ℕ) (c cv x : Float) (f : First) where
-  pub found_both : (r1 r2 : Pair) → f ≡ Known r1 → r2 ≡ second_kind df m n c cv x r1 → Both (record { first = r1; second = r2 }) ≡ with_second df m n c cv x f
+module _ (df : List Float) (m n : ℕ) (c cv x : Float) (f : Option Pair) where
+  pub found_both : (r1 r2 : Pair) → f ≡ Some r1 → r2 ≡ second_kind df m n c cv x r1 → Some (record { first = r1; second = r2 }) ≡ with_second df m n c cv x f
   unfolding with_second
   found_both r1 r2 h e = rw (h, e)
 
-  pub found_neither : f ≡ NoOrder → Neither ≡ with_second df m n c cv x f
+  pub found_neither : f ≡ None → None ≡ with_second df m n c cv x f
   unfolding with_second
   found_neither h = rw h

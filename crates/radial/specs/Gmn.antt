@@ -6,7 +6,7 @@ use Rattle.arith.specs.Choice.{abs}
 use Rattle.arith.specs.Powers.{power}
 use Rattle.expansion.specs.Terms.{terms_of}
 use Rattle.expansion.specs.declared.sckb.Partial.{Partial}
-use Rattle.radial_sums.specs.declared.rmn1.Pair.{Pair}
+use Rattle.expansion.specs.declared.values.Pair.{Pair}
 use Rattle.radial_sums.specs.Rmn1.{to_half}
 
 -- ---- the two sums

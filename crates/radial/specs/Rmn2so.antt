@@ -7,7 +7,7 @@ use Rattle.arctangents.specs.Functions.{arctangent}
 use Rattle.joining.specs.Kmn.{kmn}
 use Rattle.joining.specs.Qstar.{qstar}
 use Rattle.joining.specs.Cbk.{cbk}
-use Rattle.radial_sums.specs.declared.rmn1.Pair.{Pair}
+use Rattle.expansion.specs.declared.values.Pair.{Pair}
 use Rattle.radial_sums.specs.Limits.{second_terms}
 use Rattle.radial_sums.specs.Rmn1.{powers_sum}
 use Rattle.radial.specs.Gmn.{gmn}

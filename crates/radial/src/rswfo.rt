@@ -1,17 +1,16 @@
 // The source's `rswfo`: with kf = 3 both radial kinds at x, and with kf = 1 the first.
-ghost use Rattle.std.specs.Prelude.{◌≡◌, false, ◌+◌, ◌-◌, ◌*◌, ◌<◌, ◌≤◌};
+ghost use Rattle.std.specs.Prelude.{◌≡◌, false, ◌+◌, ◌-◌, ◌*◌, ◌≤◌};
 ghost use Rattle.std.specs.Float.Ieee.{eq};
 ghost use Rattle.arith.specs.Double.{#0};
-ghost use Rattle.expansion.specs.Terms.{Usable, terms_of};
+ghost use Rattle.expansion.specs.Terms.{terms_of};
 ghost use Rattle.expansion.specs.Sckb.{sckb};
-ghost use Rattle.radial_sums.specs.Common.{common};
 ghost use Rattle.radial_sums.specs.Rmn1 as Rmn1;
 ghost use Rattle.radial.specs.Rswfo as Rswfo;
 
 use expansion::sums::Places;
-use radial_sums::common::Common;
-use radial_sums::rmn1::{First, Pair};
-use radial_sums::rmn2l::Large;
+use expansion::terms::Mode;
+use expansion::values::Pair;
+use radial_sums::off_disc::OffDisc;
 
 // Both kinds.
 #[derive(Clone, Copy)]
@@ -20,127 +19,79 @@ pub struct Radial {
     pub second: Pair,
 }
 
-// Both kinds, or that the orders of the first one's Bessel functions were not found.
-#[derive(Clone, Copy)]
-pub enum Kinds {
-    Both(Radial),
-    Neither,
-}
+// mode, cv and x stay three: cv is any double, so that a struct of them would hold no fact besides that of
+// the mode, and off the disc `OffDisc` has the mode and x.
 
 // The expansion coefficients: the mode is oblate.
-fn coefficients(m: u32, n: u32, c: f64, cv: f64) -> Places
-    requires { Usable m n c }
-    ensures { result ≡ Rswfo.coefficients m n c cv }
+fn coefficients(mode: Mode, cv: f64) -> Places
+    ensures { result ≡ Rswfo.coefficients mode.m mode.n mode.c cv }
 {
-    expansion::sdmn::sdmn(m, n, c, cv, -1.0)
+    expansion::sdmn::sdmn(mode, cv, -1.0)
 }
 
 // The second kind from the disc's coefficients.
-fn second_by_so(df: &[f64; 200], m: u32, n: u32, c: f64, cv: f64, x: f64, first: Pair) -> Pair
-    requires { Usable m n c }
-    ensures { result ≡ Rswfo.by_so df.now m n c cv x first }
+fn second_by_so(df: &[f64; 200], mode: Mode, cv: f64, x: f64, first: Pair) -> Pair
+    ensures { result ≡ Rswfo.by_so df.now mode.m mode.n mode.c cv x first }
 {
-    let ck = expansion::sckb::sckb(df, m, n, c);
-    super::rmn2so::rmn2so(df, &ck, m, n, c, cv, x, first)
+    let ck = expansion::sckb::sckb(df, mode);
+    super::rmn2so::rmn2so(df, &ck, mode, cv, x, first)
 }
 
-// What `rmn2l` kept, or where digits or orders were lost the second kind from the disc's coefficients.
-fn kept_or_by_so(
-    df: &[f64; 200],
-    m: u32,
-    n: u32,
-    c: f64,
-    cv: f64,
-    x: f64,
-    first: Pair,
-    large: Large,
-) -> Pair
-    requires { Usable m n c }
-    ensures { result ≡ Rswfo.kept_or large (Rswfo.by_so df.now m n c cv x first) }
+// The second kind off the disc: what `rmn2l` gives, or where it gives none the one from the disc's
+// coefficients.
+fn second_kind(at: &OffDisc, cv: f64, first: Pair) -> Pair
+    ensures { result ≡ Rswfo.second_kind at.now.df.now at.now.mode.m at.now.mode.n at.now.mode.c cv at.now.x first }
 {
-    match large {
-        Large::Kept(second) => second,
-        Large::Lost => second_by_so(df, m, n, c, cv, x, first),
-    }
-}
-
-// The second kind off the disc.
-fn second_kind(
-    df: &[f64; 200],
-    m: u32,
-    n: u32,
-    c: f64,
-    cv: f64,
-    x: f64,
-    first: Pair,
-    s: Common,
-) -> Pair
-    requires usable { Usable m n c × (2 * terms_of (n - m) c + m ≤ 251) }
-    requires s_value { s ≡ common df.now m n c }
-    requires le_nm { (25 ≤ s.nm) × (s.nm < 200) × (s.nm ≤ terms_of (n - m) c) }
-    ensures { result ≡ Rswfo.second_kind df.now m n c cv x first }
-{
+    let x = at.x;
     if 1e-8 < x {
-        let large = radial_sums::rmn2l::rmn2l(df, m, n, c, x, s);
-        return kept_or_by_so(df, m, n, c, cv, x, first, large);
+        if let Some(second) = radial_sums::rmn2l::rmn2l(at) {
+            return second;
+        }
     }
-    second_by_so(df, m, n, c, cv, x, first)
+    second_by_so(at.df, at.mode, cv, x, first)
 }
 
 // Both kinds off the disc. What their sums share is formed once.
-fn off_disc(df: &[f64; 200], m: u32, n: u32, c: f64, cv: f64, x: f64) -> Kinds
-    requires { Usable m n c × (2 * terms_of (n - m) c + m ≤ 251) }
-    ensures { result ≡ Rswfo.with_second df.now m n c cv x (Rmn1.off_disc df.now m n c x) }
+fn off_disc(at: &OffDisc, cv: f64) -> Option<Radial>
+    ensures { result ≡ Rswfo.with_second at.now.df.now at.now.mode.m at.now.mode.n at.now.mode.c cv at.now.x (Rmn1.off_disc at.now.df.now at.now.mode.m at.now.mode.n at.now.mode.c at.now.x) }
 {
-    let s = radial_sums::common::find_common(df, m, n, c);
-    let found = radial_sums::rmn1::off_disc(df, m, n, c, x, s);
-    match found {
-        First::Known(first) => {
-            let second = second_kind(df, m, n, c, cv, x, first, s);
-            Kinds::Both(Radial {
-                first: first,
-                second: second,
-            })
-        }
-        First::NoOrder => Kinds::Neither,
-    }
+    let first = radial_sums::rmn1::off_disc(at)?;
+    let second = second_kind(at, cv, first);
+    Some(Radial { first, second })
 }
 
 // Both kinds at argument zero. The source forms the power coefficients for each.
-fn on_disc(df: &[f64; 200], m: u32, n: u32, c: f64, cv: f64, x: f64) -> Radial
-    requires { Usable m n c }
-    ensures first_value { result.first ≡ Rmn1.on_disc df.now (sckb df.now m n c) m n c }
-    ensures second_value { result.second ≡ Rswfo.by_so df.now m n c cv x result.first }
+fn on_disc(df: &[f64; 200], mode: Mode, cv: f64, x: f64) -> Radial
+    ensures first_value { result.first ≡ Rmn1.on_disc df.now (sckb df.now mode.m mode.n mode.c) mode.m mode.n mode.c }
+    ensures second_value { result.second ≡ Rswfo.by_so df.now mode.m mode.n mode.c cv x result.first }
 {
-    let ck = expansion::sckb::sckb(df, m, n, c);
-    let first = radial_sums::rmn1::on_disc(df, &ck, m, n, c);
-    let second = super::rmn2so::rmn2so(df, &ck, m, n, c, cv, x, first);
-    Radial {
-        first: first,
-        second: second,
-    }
+    let ck = expansion::sckb::sckb(df, mode);
+    let first = radial_sums::rmn1::on_disc(df, &ck, mode);
+    let second = super::rmn2so::rmn2so(df, &ck, mode, cv, x, first);
+    Radial { first, second }
 }
 
-// Both kinds of the oblate mode of order m and degree n at x.
-pub fn rswfo(m: u32, n: u32, c: f64, cv: f64, x: f64) -> Kinds
-    requires usable { Usable m n c }
-    requires m_bound { eq x #0 ≡ false → 2 * terms_of (n - m) c + m ≤ 251 }
-    ensures { result ≡ Rswfo.rswfo m n c cv x }
+// Both kinds of an oblate mode at x: none where the orders of the first one's Bessel functions were not
+// found. What is asked is asked off the disc only, so that no type holds it for every x: there `OffDisc` does.
+pub fn rswfo(mode: Mode, cv: f64, x: f64) -> Option<Radial>
+    requires { eq x #0 ≡ false → 2 * terms_of (mode.n - mode.m) mode.c + mode.m ≤ 251 }
+    ensures { result ≡ Rswfo.rswfo mode.m mode.n mode.c cv x }
 {
-    let df = coefficients(m, n, c, cv);
+    let df = coefficients(mode, cv);
     if x == 0.0 {
-        let both = on_disc(&df, m, n, c, cv, x);
-        return Kinds::Both(both);
+        return Some(on_disc(&df, mode, cv, x));
     }
-    off_disc(&df, m, n, c, cv, x)
+    let at = OffDisc::at(&df, mode, x);
+    off_disc(&at, cv)
 }
 
-// The first kind of the oblate mode of order m and degree n at x.
-pub fn first_kind(m: u32, n: u32, c: f64, cv: f64, x: f64) -> First
-    requires usable { Usable m n c }
-    requires m_bound { eq x #0 ≡ false → 2 * terms_of (n - m) c + m ≤ 251 }
-    ensures { result ≡ Rswfo.first_kind m n c cv x }
+// The first kind of an oblate mode at x: none where the orders of its Bessel functions were not found. What
+// is asked is that of `rswfo`.
+#[tactic(auto, unfolding(crate::specs::Rswfo::first_kind))]
+pub fn first_kind(mode: Mode, cv: f64, x: f64) -> Option<Pair>
+    requires { eq x #0 ≡ false → 2 * terms_of (mode.n - mode.m) mode.c + mode.m ≤ 251 }
+    ensures { result ≡ Rswfo.first_kind mode.m mode.n mode.c cv x }
 {
-    let df = coefficients(m, n, c, cv);
-    radial_sums::rmn1::rmn1(&df, m, n, c, x)
+    let df = coefficients(mode, cv);
+    radial_sums::rmn1::rmn1(&df, mode, x)
 }

@@ -1,16 +1,15 @@
 -- The oblate radial function of the first kind (`rmn1`), on the disc and off it, with the names of the source. Definitions only.
-use Rattle.std.specs.Prelude.{ℕ, zero, suc, ◌+◌, ◌-◌, ◌*◌, ◌/◌, ◌%◌, true, false, cond, List, eqb, Float}
+use Rattle.std.specs.Prelude.{ℕ, zero, suc, ◌+◌, ◌-◌, ◌*◌, ◌/◌, ◌%◌, true, false, cond, List, eqb, Option, Some, None, Float}
 use Rattle.std.specs.Float.Ieee.{neg, eq}
 use Rattle.arith.specs.Double.{◌⊕◌, ◌⊖◌, ◌⊗◌, ◌⊘◌, dbl, at, #0, #1, #2}
-use Rattle.arith.specs.Powers.{power, half_power}
+use Rattle.arith.specs.Powers.{power}
+use Rattle.expansion.specs.Products.{half_of_m}
 use Rattle.expansion.specs.Sums.{settled}
 use Rattle.expansion.specs.Sckb.{regulator, sckb}
 use Rattle.joining.specs.declared.sums.Test.TheVariants.{Product}
 use Rattle.joining.specs.Sums.{expansion_sum, sa0_above, sa0_below}
 use Rattle.bessel.specs.Sphj.{orders, sj, dj}
-use Rattle.radial_sums.specs.declared.rmn1.Pair.{Pair}
-use Rattle.radial_sums.specs.declared.rmn1.First.{First}
-use Rattle.radial_sums.specs.declared.rmn1.First.TheVariants.{Known, NoOrder}
+use Rattle.expansion.specs.declared.values.Pair.{Pair}
 use Rattle.radial_sums.specs.Limits.{first_terms}
 use Rattle.radial_sums.specs.BesselSums.{bessel_sum}
 use Rattle.radial_sums.specs.Common.{common}
@@ -54,7 +53,7 @@ on_disc df ck m n c =
 
 -- w to the power m/2
 unfoldable pub to_half : Float → ℕ → Float
-to_half w m = cond (eqb (m % 2) 0) (power w (m / 2)) (half_power w (m / 2))
+to_half w m = half_of_m w m
 
 -- From the sum over the expansion coefficients, df_sum, and the sums with Bessel functions of either kind and with their derivatives. kd is −1, and kd m as a whole number is +0 for m = 0.
 -- Where x³ underflows, b0 is 0/0 for m = 0; where x x underflows, w is infinite.
@@ -67,7 +66,7 @@ joined m c x df_sum sum sud =
     record { value = r1f; derivative = b0 ⊕ a0 ⊗ c ⊗ sud }
 
 -- there is no answer where the order from which the recurrence of `sphj` starts was not found
-unfoldable pub off_disc : List Float → ℕ → ℕ → Float → Float → First
+unfoldable pub off_disc : List Float → ℕ → ℕ → Float → Float → Option Pair
 off_disc df m n c x =
     let s = common df m n c in
     let ip = (n - m) % 2 in
@@ -76,9 +75,9 @@ off_disc df m n c x =
     let nm2 = 2 * s.nm + m in
     let sum = bessel_sum df (sj cx nm2) m ip half s.nm s.r0 in
     let sud = bessel_sum df (dj cx nm2) m ip half s.nm s.r0 in
-    elim (eqb (orders cx nm2).from 0) [ true ↦ NoOrder | false ↦ Known (joined m c x s.suc sum sud) ]
+    elim (eqb (orders cx nm2).from 0) [ true ↦ None | false ↦ Some (joined m c x s.suc sum sud) ]
 
 -- ---- at any x
 
-unfoldable pub rmn1 : List Float → ℕ → ℕ → Float → Float → First
-rmn1 df m n c x = elim (eq x #0) [ true ↦ Known (on_disc df (sckb df m n c) m n c) | false ↦ off_disc df m n c x ]
+unfoldable pub rmn1 : List Float → ℕ → ℕ → Float → Float → Option Pair
+rmn1 df m n c x = elim (eq x #0) [ true ↦ Some (on_disc df (sckb df m n c) m n c) | false ↦ off_disc df m n c x ]

@@ -1,5 +1,5 @@
 -- The oblate radial function of the second kind, off the disc, where c x is not small (`rmn2l`), with the names of the source. j counts coefficients from 0: the source's k is j + 1. Definitions only.
-use Rattle.std.specs.Prelude.{ℕ, zero, suc, ◌+◌, ◌-◌, ◌*◌, ◌/◌, ◌%◌, Bool, true, false, cond, ◌&&◌, ◌||◌, List, leb, ℤ, negsuc, Float}
+use Rattle.std.specs.Prelude.{ℕ, zero, suc, ◌+◌, ◌-◌, ◌*◌, ◌/◌, ◌%◌, Bool, true, false, cond, ◌&&◌, ◌||◌, List, leb, Option, Some, None, ℤ, negsuc, Float}
 use Rattle.std.specs.Int.Signed.{lt_z}
 use Rattle.std.specs.Float.Ieee.{neg, lt}
 use Rattle.arith.specs.Double.{◌⊕◌, ◌⊖◌, ◌⊗◌, ◌⊘◌, at, bits, #0, #1e-14}
@@ -9,9 +9,8 @@ use Rattle.logarithms.specs.Functions.{log10}
 use Rattle.joining.specs.declared.sums.Test.TheVariants.{Product}
 use Rattle.joining.specs.Sums.{stops}
 use Rattle.bessel.specs.Sphy.{sy, dy, highest}
+use Rattle.expansion.specs.declared.values.Pair.{Pair}
 use Rattle.radial_sums.specs.declared.rmn2l.Reached.{Reached}
-use Rattle.radial_sums.specs.declared.rmn2l.Large.{Large}
-use Rattle.radial_sums.specs.declared.rmn2l.Large.TheVariants.{Kept, Lost}
 use Rattle.radial_sums.specs.BesselSums.{lg, factor}
 use Rattle.radial_sums.specs.Common.{common}
 use Rattle.radial_sums.specs.Rmn1.{joined}
@@ -52,8 +51,8 @@ unfoldable pub lost : Float → Float → Bool
 lost sum eps = lt_z (negsuc 0) (int_x86 (log10 (eps ⊘ abs sum ⊕ #1e-14)))
 
 -- ---- the second kind at x. The sum remembered is carried from the sum over the coefficients alone into that of the values, and from there into that of the derivatives
--- lost where the orders known do not go past that of the last value, or digits of either sum are lost
-unfoldable pub rmn2l : List Float → ℕ → ℕ → Float → Float → Large
+-- none where the orders known do not go past that of the last value, or digits of either sum are lost
+unfoldable pub rmn2l : List Float → ℕ → ℕ → Float → Float → Option Pair
 rmn2l df m n c x =
     let s = common df m n c in
     let ip = (n - m) % 2 in
@@ -62,4 +61,4 @@ rmn2l df m n c x =
     let nm2 = 2 * s.nm + m in
     let f = large_sum df (sy cx nm2) m ip half s.nm s.r0 s.sw in
     let d = large_sum df (dy cx nm2) m ip half s.nm s.r0 f.sw in
-    cond (leb (highest cx nm2) f.np || lost f.sum f.eps || lost d.sum d.eps) Lost (Kept (joined m c x s.suc f.sum d.sum))
+    cond (leb (highest cx nm2) f.np || lost f.sum f.eps || lost d.sum d.eps) None (Some (joined m c x s.suc f.sum d.sum))

@@ -5,5 +5,6 @@
 mod bessel_sums;
 pub mod common;
 pub mod limits;
+pub mod off_disc;
 pub mod rmn1;
 pub mod rmn2l;

@@ -1,5 +1,6 @@
 // The ported routines as Rust callers link them, for the differential test and the benchmark. What
-// buyers link is `spheroidal_c`.
+// buyers link is `spheroidal_c`. It is a C interface: a mode comes as m, n and c, so that each routine asks
+// for `Usable`; arrays come apart; and a number that was not found is 0.
 #![tactic(auto)]
 
 ghost use Rattle.std.specs.Prelude.{◌≡◌, cond, eqb, ◌<◌, ◌≤◌};
@@ -16,6 +17,8 @@ ghost use Rattle.bessel.specs.Msta2 as Msta2;
 ghost use Rattle.bessel.specs.Sphj as Sphj;
 ghost use Rattle.bessel.specs.Sphy as Sphy;
 
+use expansion::terms::Mode;
+
 // The diagonal of one parity's matrix and the roots beside it.
 #[unsafe(no_mangle)]
 pub extern "C" fn routines_fill(
@@ -30,9 +33,12 @@ pub extern "C" fn routines_fill(
     ensures d_after { d.new ≡ diagonal m parity cs entries }
     ensures e_after { e.new ≡ off_diagonal m parity cs entries }
 {
-    *d = sturm::blank();
-    *e = sturm::blank();
-    sturm::fill(d, e, m, parity, cs, entries);
+    let matrix = sturm::family_matrix(m, parity, cs, entries);
+    // By names: the check of borrows does not cover a field stored through the reference at once.
+    let diagonal = matrix.d;
+    let off_diagonal = matrix.e;
+    *d = diagonal;
+    *e = off_diagonal;
 }
 
 // kd is 1 or -1.
@@ -41,7 +47,7 @@ pub extern "C" fn routines_sdmn(m: u32, n: u32, c: f64, cv: f64, kd: f64, df: &m
     requires { Usable m n c }
     ensures { df.new ≡ Sdmn.sdmn m n c cv kd }
 {
-    *df = expansion::sdmn::sdmn(m, n, c, cv, kd);
+    *df = expansion::sdmn::sdmn(Mode { m, n, c }, cv, kd);
 }
 
 #[unsafe(no_mangle)]
@@ -49,7 +55,7 @@ pub extern "C" fn routines_sckb(df: &[f64; 200], m: u32, n: u32, c: f64, ck: &mu
     requires { Usable m n c }
     ensures { ck.new ≡ Sckb.sckb df.now m n c }
 {
-    *ck = expansion::sckb::sckb(df, m, n, c);
+    *ck = expansion::sckb::sckb(df, Mode { m, n, c });
 }
 
 #[unsafe(no_mangle)]
@@ -57,7 +63,7 @@ pub extern "C" fn routines_kmn(df: &[f64; 200], m: u32, n: u32, c: f64) -> f64
     requires { Usable m n c }
     ensures { result ≡ Kmn.kmn df.now m n c }
 {
-    joining::kmn::kmn(df, m, n, c)
+    joining::kmn::kmn(df, Mode { m, n, c })
 }
 
 #[unsafe(no_mangle)]
@@ -91,7 +97,7 @@ pub extern "C" fn routines_cbk(
     requires { Usable m n c }
     ensures { bk.new ≡ Cbk.cbk ck.now m n c cv qt }
 {
-    *bk = joining::cbk::cbk(ck, m, n, c, cv, qt);
+    *bk = joining::cbk::cbk(ck, Mode { m, n, c }, cv, qt);
 }
 
 #[unsafe(no_mangle)]
@@ -109,7 +115,7 @@ pub extern "C" fn routines_aswfa(
     ensures value_after { value.new ≡ (Aswfa.aswfa m n c cv kd x).value }
     ensures derivative_after { derivative.new ≡ (Aswfa.aswfa m n c cv kd x).derivative }
 {
-    let p = angular::aswfa::aswfa(m, n, c, cv, kd, x);
+    let p = angular::aswfa::aswfa(Mode { m, n, c }, cv, kd, x);
     *value = p.value;
     *derivative = p.derivative;
 }
@@ -119,14 +125,14 @@ pub extern "C" fn routines_aswfa(
 pub extern "C" fn routines_msta1(x: f64, mp: u32) -> u32
     ensures { result ≡ Msta1.msta1 x mp }
 {
-    bessel::msta1::msta1(x, mp)
+    bessel::msta1::msta1(x, mp).unwrap_or(0)
 }
 
 #[unsafe(no_mangle)]
 pub extern "C" fn routines_msta2(x: f64, n: u32, mp: u32) -> u32
     ensures { result ≡ Msta2.msta2 x n mp }
 {
-    bessel::msta2::msta2(x, n, mp)
+    bessel::msta2::msta2(x, n, mp).unwrap_or(0)
 }
 
 // The highest order computed, or 0 where the order from which the recurrence starts was not found.
@@ -139,8 +145,8 @@ pub extern "C" fn routines_sphj(x: f64, n: u32, sj: &mut [f64; 252], dj: &mut [f
     let orders = bessel::sphj::find_orders(x, n);
     let nm = orders.nm;
     let from = orders.from;
-    *sj = bessel::sphj::blank();
-    *dj = bessel::sphj::blank();
+    *sj = arith::filled(0.0);
+    *dj = arith::filled(0.0);
     bessel::sphj::sphj(x, n, orders, sj, dj);
     if from == 0 {
         return 0;
@@ -155,7 +161,7 @@ pub extern "C" fn routines_sphy(x: f64, n: u32, sy: &mut [f64; 252], dy: &mut [f
     ensures value { result ≡ Sphy.highest x n }
     ensures sy_after { (sy.new ≡ Sphy.sy x n) × (dy.new ≡ Sphy.dy x n) }
 {
-    *sy = bessel::sphj::blank();
-    *dy = bessel::sphj::blank();
+    *sy = arith::filled(0.0);
+    *dy = arith::filled(0.0);
     bessel::sphy::sphy(x, n, sy, dy)
 }

@@ -1,6 +1,6 @@
 -- `routines_c::routines_aswfa` meets its contract. Assumes nothing.
 use mathlib.Core.Path.{ap}
-use Rattle.angular.specs.declared.aswfa.Pair.{Pair}
+use Rattle.expansion.specs.declared.values.Pair.{Pair}
 use Rattle.routines_c.proofs.routines_aswfa.Goals as goal
 
 pub returns : goal.returns

@@ -6,11 +6,8 @@ use Rattle.radial.proofs.rswfo.rswfo.Goals as goal
 
 pub returns-then-x : goal.returns-then-x
 unfolding Rswfo.rswfo
-returns-then-x c = both_on_disc _ _ _ _ _ _ c.if-x.true c.on_disc-both.result c.on_disc-both.ensures.first_value c.on_disc-both.ensures.second_value ∙ rw c.coefficients-df.ensures
-
-pub off_disc-requires : goal.off_disc-requires
-off_disc-requires c = (c.requires.usable, c.requires.m_bound c.if-x.false)
+returns-then-x c = both_on_disc _ _ _ _ _ _ c.if-x.true c.on_disc.result c.on_disc.ensures.first_value c.on_disc.ensures.second_value ∙ rw c.coefficients-df.ensures
 
 pub returns : goal.returns
 unfolding Rswfo.rswfo
-returns c = c.off_disc.ensures ∙ both_off_disc _ _ _ _ _ _ c.if-x.false ∙ rw c.coefficients-df.ensures
+returns c = let a = c.at-at.ensures in c.off_disc.ensures ∙ rw (a.0, a.1, a.2) (both_off_disc _ _ _ _ _ _ c.if-x.false ∙ rw c.coefficients-df.ensures)

@@ -1,10 +1,11 @@
 -- `radial::rswfo::second_kind` meets its contract. Assumes nothing.
-use mathlib.Core.Path.{◌∙◌}
-use Rattle.radial.proofs.Laws.{tried, not_tried}
+use mathlib.Core.Path.{sym, ◌∙◌}
+use Rattle.radial.proofs.Laws.{kept, lost, not_tried}
 use Rattle.radial.proofs.rswfo.second_kind.Goals as goal
+use Rattle.radial.proofs.rswfo.second_kind.Goals.{then-x+in_default, else-x}
 
-pub returns-then-x : goal.returns-then-x
-returns-then-x c = tried _ _ _ _ _ _ _ c.if-x.true c.rmn2l-large.result _ c.rmn2l-large.ensures c.kept_or_by_so.ensures
+pub returns-in-Some : goal.returns-in-Some
+returns-in-Some c = kept _ _ _ _ _ _ _ c.if-x.true _ (sym c.rmn2l.ensures ∙ c.in-Some.is)
 
 pub returns : goal.returns
-returns c = c.second_by_so.ensures ∙ not_tried _ _ _ _ _ _ _ c.if-x.false
+returns c = elim c.if-x.branch [ then-x+in_default w ↦ c.second_by_so.ensures ∙ lost _ _ _ _ _ _ _ w.if-x.true (sym w.rmn2l.ensures ∙ w.in_default.is) | else-x w ↦ c.second_by_so.ensures ∙ not_tried _ _ _ _ _ _ _ w.if-x.false ]

@@ -2,8 +2,7 @@
 use Rattle.radial_sums.specs.Common.{common}
 use Rattle.radial_sums.proofs.common.find_common.Goals as goal
 
-pub returns : goal.returns
+pub returns-clause-value : goal.returns-clause-value
 unfolding common
-returns c =
-    let f = c.first_terms-nm.ensures in
-    record { value = rw (c.rise-r0.ensures, c.expansion_partial-p.ensures, c.regulator-reg.ensures, f.value); le_nm = f.lower_bound }
+returns-clause-value c =
+    rw (c.rise-r0.ensures, c.expansion_partial-p.ensures, c.regulator-reg.ensures, c.first_terms-nm.ensures.value, c.parity-ip.ensures.value, c.offset-half.ensures.value)

@@ -6,8 +6,5 @@ use Rattle.radial_sums.proofs.rmn1.rmn1.Goals as goal
 pub returns-then-x : goal.returns-then-x
 returns-then-x c = rw (c.on_disc.ensures, c.sckb-ck.ensures) (at_zero _ _ _ _ _ c.if-x.true)
 
-pub off_disc-requires : goal.off_disc-requires
-off_disc-requires c = let p = c.requires in record { usable = (p.usable, p.m_bound c.if-x.false); s_value = c.find_common-s.ensures.value; le_nm = c.find_common-s.ensures.le_nm }
-
 pub returns : goal.returns
-returns c = c.off_disc.ensures ∙ off_zero _ _ _ _ _ c.if-x.false
+returns c = let a = c.at-at.ensures in c.off_disc.ensures ∙ rw (a.0, a.1, a.2) (off_zero _ _ _ _ _ c.if-x.false)

@@ -3,28 +3,24 @@ use Prim.Native.Nat.{suc, ◌-◌}
 use mathlib.Core.Path.{◌≡◌, ◌∙◌}
 use native.Mathlib.Omega.{arith}
 use native.Mathlib.Numerals.{add-one}
-use native.Mathlib.Nat.{sub-zero}
 use Rattle.radial_sums.specs.Rmn2l.{large_on}
 use Rattle.radial_sums.proofs.Laws.{large_stop, large_on_lem}
 use Rattle.radial_sums.proofs.rmn2l.large_sum.Goals as goal
 
-pub loop-j-init : goal.loop-j-init
-loop-j-init c = (omega arith, rw (sub-zero c.args.nm))
-
 pub returns-then-stops : goal.returns-then-stops
 returns-then-stops c =
-    let a = c.args in
+    let t = c.args.t in
     let l = c.loop-j in
-    let h : a.nm - l.j ≡ suc (a.nm - suc l.j) = omega arith in
-    large_stop _ _ a.m a.ip a.half (a.nm - suc l.j) l.j l.r _ _ l.sum l.sw l.eps _ l.np c.factor-r.ensures c.lg.ensures c.abs-eps.ensures _ c.stops.ensures c.if-stops.true ∙ rw h at l.invariant.1
+    let h : t.nm - l.j ≡ suc (t.nm - suc l.j) = omega arith in
+    large_stop _ _ t.m t.ip t.half (t.nm - suc l.j) l.j l.r _ _ l.sum l.sw l.eps _ l.np c.factor-r.ensures c.lg.ensures c.abs-eps.ensures _ c.stops.ensures c.if-stops.true ∙ rw h at l.invariant
 
 pub loop-j-preserved : goal.loop-j-preserved
 loop-j-preserved c =
-    let a = c.args in
+    let t = c.args.t in
     let l = c.loop-j in
-    let h : a.nm - l.j ≡ suc (a.nm - suc l.j) = omega arith in
-    (omega arith, rw (add-one l.j) (large_on_lem _ _ a.m a.ip a.half (a.nm - suc l.j) l.j l.r _ _ l.sum l.sw l.eps _ l.np c.factor-r.ensures c.lg.ensures c.abs-eps.ensures _ c.stops.ensures c.if-stops.false ∙ rw h at l.invariant.1))
+    let h : t.nm - l.j ≡ suc (t.nm - suc l.j) = omega arith in
+    rw (add-one l.j) (large_on_lem _ _ t.m t.ip t.half (t.nm - suc l.j) l.j l.r _ _ l.sum l.sw l.eps _ l.np c.factor-r.ensures c.lg.ensures c.abs-eps.ensures _ c.stops.ensures c.if-stops.false ∙ rw h at l.invariant)
 
 pub returns : goal.returns
 unfolding large_on
-returns c = let h : c.args.nm - c.loop-j.j ≡ 0 = omega arith in rw h at c.loop-j.invariant.1
+returns c = let h : c.args.t.nm - c.loop-j.j ≡ 0 = omega arith in rw h at c.loop-j.invariant

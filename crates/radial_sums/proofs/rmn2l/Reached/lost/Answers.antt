@@ -1,9 +1,9 @@
--- `radial_sums::rmn2l::lost` meets its contract. Assumes nothing.
+-- `radial_sums::rmn2l::Reached::lost` meets its contract. Assumes nothing.
 use mir.Syntax.{w32}
 use mir.Facts.{to_z-of_z}
 use Rattle.radial_sums.proofs.Laws.{int_fits}
 use Rattle.radial_sums.specs.Rmn2l.{lost}
-use Rattle.radial_sums.proofs.rmn2l.lost.Goals as goal
+use Rattle.radial_sums.proofs.rmn2l.Reached.lost.Goals as goal
 
 pub returns : goal.returns
 unfolding lost
