@@ -3,31 +3,52 @@ use mathlib.Core.Path.{◌≡◌, refl, sym, ap, ◌∙◌}
 use mathlib.Core.Logic.{◌⊎◌, inl, inr, ⊎_elim}
 use mathlib.Core.Bool.{Bool, true, false, cond}
 use mathlib.Core.List.{List, [], ◌∷◌, ◌++◌, append_assoc, append-nil}
-use Prim.Native.Nat.{ℕ, zero, suc, ◌+◌, ◌-◌, ◌*◌, ◌/◌, ◌%◌, ◌^◌, ◌≤◌, ◌<◌}
-use native.Mathlib.Nat.{add_assoc, add-suc, pow-suc}
+use Prim.Native.Nat.{ℕ, zero, suc, ◌+◌, ◌-◌, ◌/◌, ◌%◌, ◌^◌, ◌≤◌, ◌<◌}
+use native.Mathlib.Nat.{add_assoc, add-zero, add-suc, pow-suc}
 use native.Mathlib.Decide.{dec_le}
 use native.Mathlib.Numerals.{add-one}
 use native.Mathlib.Omega.{arith}
 use borrow.Author.Tests.{lt-ltb, le-ltb}
-use lib.ListN.{length, take, drop, set, length-append, length-drop, length-set, take-append-drop}
-use lib.Seq.{length-take-le, take_at, drop_at, drop-drop, take-set-le, drop-set-lt, get_or-set_same, drop-cons, set_split, append_snoc}
+use Rattle.std.specs.Int.{w16, w32, w64, from_le_bytes}
+use lib.ListN.{length, get_or, take, drop, set, length-append, length-drop, length-set, take-append-drop}
+use lib.Seq.{length-take-le, take_at, drop_at, drop-drop, take-set-le, drop-set-lt, get_or-set_same, get_or-take, get_or-drop, drop-cons, set_split, append_snoc}
 use Rattle.records.specs.Record.{number_at, marked, width_at}
 use Rattle.records.specs.Text.{Put, digit, decimal_in, decimal, hexadecimal}
 
--- ---- little-endian numbers in two halves
-pub number_at_4 : (input : List ℕ) (at : ℕ) → number_at input at 4 ≡ number_at input at 2 + 0x1_0000 * number_at input (at + 2) 2
-unfolding number_at
-number_at_4 input at = simp add_assoc (omega arith)
+-- ---- little-endian numbers, as the library reads them from the bytes
+byte_of : (n : ℕ) (input : List ℕ) (at i : ℕ) → i < n → get_or (take n (drop at input)) i 0 ≡ get_or input (at + i) 0
+byte_of n input at i h = get_or-take n (drop at input) i 0 h ∙ get_or-drop at input i 0
 
-pub number_at_8 : (input : List ℕ) (at : ℕ) → number_at input at 8 ≡ number_at input at 4 + 0x1_0000_0000 * number_at input (at + 4) 4
+pub number_2 : (input bytes : List ℕ) (at n : ℕ) → bytes ≡ take 2 (drop at input) → n ≡ from_le_bytes w16 bytes → n ≡ number_at input at 2
 unfolding number_at
-number_at_8 input at = simp add_assoc (omega arith)
+number_2 input bytes at n b e = rw b at e ∙ rw (byte_of 2 input at 0 (omega arith), byte_of 2 input at 1 (omega arith), add-zero at) (omega arith)
+
+pub number_4 : (input bytes : List ℕ) (at n : ℕ) → bytes ≡ take 4 (drop at input) → n ≡ from_le_bytes w32 bytes → n ≡ number_at input at 4
+unfolding number_at
+number_4 input bytes at n b e =
+    rw b at e ∙ rw (byte_of 4 input at 0 (omega arith), byte_of 4 input at 1 (omega arith), byte_of 4 input at 2 (omega arith), byte_of 4 input at 3 (omega arith), add-zero at) (simp add_assoc (omega arith))
+
+pub number_8 : (input bytes : List ℕ) (at n : ℕ) → bytes ≡ take 8 (drop at input) → n ≡ from_le_bytes w64 bytes → n ≡ number_at input at 8
+unfolding number_at
+number_8 input bytes at n b e =
+    rw b at e
+    ∙ rw (byte_of 8 input at 0 (omega arith), byte_of 8 input at 1 (omega arith), byte_of 8 input at 2 (omega arith), byte_of 8 input at 3 (omega arith), byte_of 8 input at 4 (omega arith), byte_of 8 input at 5 (omega arith), byte_of 8 input at 6 (omega arith), byte_of 8 input at 7 (omega arith), add-zero at)
+    (simp add_assoc (omega arith))
 
 -- ---- marks
 widths : (old new : Bool) (w : ℕ) → w ≡ cond old 2 (cond new 4 0) → (w ≡ 0 → ⊥) → (w ≡ 2) ⊎ (w ≡ 4)
 widths true new w e h = inl e
 widths false true w e h = inr e
 widths false false w e h = absurd (h e)
+
+-- of the two, the one that is not 4
+pub other_width : {w : ℕ} → (w ≡ 2) ⊎ (w ≡ 4) → (w ≡ 4 → ⊥) → w ≡ 2
+other_width (inl e) h = e
+other_width (inr e) h = absurd (h e)
+
+pub width_above : {w : ℕ} → (w ≡ 2) ⊎ (w ≡ 4) → w ≡ 0 → ⊥
+width_above (inl e) h = omega arith
+width_above (inr e) h = omega arith
 
 -- a known mark's width is 2 or 4
 pub width_known : {w : ℕ} (input : List ℕ) (at : ℕ) → w ≡ width_at input at → (w ≡ 0 → ⊥) → (w ≡ 2) ⊎ (w ≡ 4)

@@ -1,5 +1,7 @@
 // The lines that the program writes, into the caller's slice. Each function puts its line at a place
-// and answers the place after it. It asks for room for the longest line of its kind.
+// and answers the place after it. It asks for room for the longest line of its kind. Places and no writer,
+// as in `text`. A line's fields come one by one, and no struct is made to hold them: no fact is known of
+// index, m and n, and each line has others beside them.
 ghost use Rattle.std.specs.Prelude.{◌≡◌, ◌∷◌, ◌++◌, ◌+◌, ◌≤◌, length};
 ghost use Rattle.records.specs.Text.{Put};
 ghost use Rattle.records.specs.Lines.{number, double, v_line, z_line, d_line, pair_line, f_line, r_line, bits_line, bracket, pair};
@@ -68,7 +70,8 @@ pub fn v_line(
     bracket(out, c, value, lower, upper)
 }
 
-// The line after it: 1 where 1e-30 was put in for a zero pivot, else 0.
+// The line after it: 1 where 1e-30 was put in for a zero pivot, else 0: a byte, as C lends them to
+// a row.
 pub fn z_line(out: &mut [u8], at: usize, index: u64, mode: u16, substituted: u8) -> usize
     requires { at + 33 ≤ length out.old }
     ensures put { Put out.old out.new at result (z_line index mode substituted) }

@@ -1,5 +1,6 @@
 // Text into the caller's slice. Each function puts its text at a place and answers the place after
-// it; the caller sees to it that the text fits. No other byte of the slice changes.
+// it; the caller sees to it that the text fits. No other byte of the slice changes. Places and no
+// writer: text is put into fixed memory, and that it fits is proved.
 ghost use Rattle.std.specs.Prelude.{◌≡◌, [], ◌∷◌, ◌+◌, ◌/◌, ◌%◌, ◌<◌, ◌≤◌, length};
 ghost use Rattle.records.specs.Text.{Put, digit, decimal, hexadecimal};
 
@@ -55,9 +56,7 @@ pub(crate) fn hexadecimal(out: &mut [u8], at: usize, n: u64) -> usize
     ensures value { result ≡ at + 16 }
 {
     let mut rest = n;
-    let mut i: usize = 16;
-    while i > 0 {
-        i -= 1;
+    for i in (0..16).rev() {
         let p = at + i;
         out[p] = digit(rest % 16);
         rest /= 16;

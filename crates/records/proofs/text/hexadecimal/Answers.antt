@@ -9,15 +9,6 @@ use Rattle.records.specs.Text.{hexadecimal}
 use Rattle.records.proofs.Laws.{put_before, hexadecimal_length}
 use Rattle.records.proofs.text.hexadecimal.Goals as goal
 
-pub loop-i-init : goal.loop-i-init
-loop-i-init c = (omega arith, refl, refl)
-
-pub overflow_add-p : goal.overflow_add-p
-overflow_add-p c = omega arith
-
-pub bounds-out-p : goal.bounds-out-p
-bounds-out-p c = omega arith
-
 pub loop-i-preserved : goal.loop-i-preserved
 unfolding hexadecimal
 loop-i-preserved c =
@@ -26,15 +17,11 @@ loop-i-preserved c =
     let j = l.i - 1 in
     let e : suc j ≡ l.i = omega arith in
     let room : at + j < length l.out = omega arith in (
-      omega arith,
-      length-set l.out (at + j) c.digit.result ∙ l.invariant.1,
+      length-set l.out (at + j) c.digit.result ∙ l.invariant.0,
       put_before l.out at j c.digit.result (hexadecimal j (l.rest / 16)) room
           ∙ rw c.digit.ensures (ap (λ (k : ℕ). take at l.out ++ hexadecimal k l.rest ++ drop (at + k) l.out) e)
-          ∙ l.invariant.2,
+          ∙ l.invariant.1,
     )
-
-pub shape_of-out : goal.shape_of-out
-shape_of-out c = c.loop-i.invariant.1
 
 pub returns : goal.returns
 unfolding hexadecimal
@@ -44,4 +31,4 @@ returns c =
     let e : l.i ≡ 0 = omega arith in
     let all : take at l.out ++ hexadecimal 0 l.rest ++ drop (at + 0) l.out ≡ l.out =
     rw (add-zero at, append-nil (take at l.out)) (take-append-drop at l.out) in
-    record { put = record { ends = ap (λ (k : ℕ). at + k) (sym (hexadecimal_length 16 c.args.n)); fits = omega arith; shows = sym all ∙ rw e at l.invariant.2 }; value = refl }
+    record { put = record { ends = ap (λ (k : ℕ). at + k) (sym (hexadecimal_length 16 c.args.n)); fits = omega arith; shows = sym all ∙ rw e at l.invariant.1 }; value = refl }

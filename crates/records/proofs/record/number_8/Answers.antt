@@ -1,9 +1,0 @@
--- `records::record::number_8` meets its contract: a number in two halves. Assumes nothing.
-use native.Mathlib.Omega.{arith}
-use Rattle.records.proofs.Laws.{number_at_8}
-use Rattle.records.proofs.record.number_8.Goals as goal
-
-pub returns : goal.returns
-returns c =
-    let a = c.args in
-    omega (arith, number_at_8 a.input.now a.at)
