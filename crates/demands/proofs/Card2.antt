@@ -6,11 +6,11 @@ use lib.Dec.{eqb}
 use lib.Ieee.{Float}
 use Prim.Native.Nat.{ℕ}
 use Rattle.arith.specs.Double.{bits}
-use Rattle.radial_sums.specs.declared.rmn1.First.{First}
-use Rattle.radial_sums.specs.declared.rmn1.First.TheVariants.{Known, NoOrder}
+use Rattle.std.specs.Prelude.{Option, Some, None}
+use Rattle.expansion.specs.declared.values.Pair as values
 use Rattle.radial_sums.specs.Rmn1.{rmn1}
 use Rattle.radial.specs.Rswfo.{coefficients, with_second, rswfo, first_kind}
-use Rattle.requests.specs.declared.answers.Answer.{Answer}
+use Rattle.requests.specs.Answers.{Answer}
 use Rattle.requests.specs.declared.checking.Mode.{Mode}
 use Rattle.modes.specs.Radial.{radial_refusal, quadruple_or_refusal, radial_of}
 use Rattle.modes.specs.FirstKind.{pair_or_refusal, first_of}
@@ -18,10 +18,10 @@ use Rattle.demands.specs.Card2.{first_pair, FirstKindOfBoth, RadialEdge, radial_
 use Rattle.demands.proofs.Computed.{computed}
 
 -- the first of both kinds, found or not
-of_both : (df : List Float) (m n : ℕ) (c cv x : Float) (f : First) → pair_or_refusal f ≡ first_pair (quadruple_or_refusal (with_second df m n c cv x f))
+of_both : (df : List Float) (m n : ℕ) (c cv x : Float) (f : Option values.Pair) → pair_or_refusal f ≡ first_pair (quadruple_or_refusal (with_second df m n c cv x f))
 unfolding pair_or_refusal quadruple_or_refusal with_second first_pair
-of_both df m n c cv x (Known p) = refl
-of_both df m n c cv x NoOrder = refl
+of_both df m n c cv x (Some p) = refl
+of_both df m n c cv x None = refl
 
 pub first_kind_of_both : FirstKindOfBoth
 unfolding first_of radial_of first_pair first_kind rswfo

@@ -2,7 +2,7 @@
 use mathlib.Core.Path.{◌≡◌, refl}
 use mathlib.Core.List.{List, ◌∷◌, map}
 use Rattle.arith.specs.Double.{bits}
-use Rattle.requests.specs.declared.answers.Answer.{Answer}
+use Rattle.requests.specs.Answers.{Answer}
 use Rattle.modes.specs.Radial.{radial_of}
 use Rattle.demands.specs.Card5.{Row, by_rmn2so, at_limit, past_limit, remembered, both_off_disc}
 use Rattle.demands.proofs.Computed.{computed}

@@ -14,7 +14,7 @@ use Rattle.angular.specs.Aswfa.{aswfa}
 use Rattle.angular.proofs.Turns.{in_turn_length, in_turn_at}
 use Rattle.segv.specs.declared.bisection.Bracket.{Bracket}
 use Rattle.segv.specs.Row.{Slices}
-use Rattle.requests.specs.declared.answers.Answer.TheVariants.{Pair}
+use Rattle.requests.specs.Answers.{Pair}
 use Rattle.requests.specs.declared.checking.Kind.{Kind}
 use Rattle.requests.specs.declared.checking.Mode.{Mode}
 use Rattle.requests.specs.Refusals.{mode_refusal, sign_of}

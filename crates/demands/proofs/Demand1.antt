@@ -1,25 +1,21 @@
 -- The users' first demand holds of the definitions of the public calls that fill slices: wherever one of them does not give back the places, its number is 0. Assumes nothing.
 use Prim.Native.Nat.{ℕ, ◌-◌}
-use mathlib.Core.Path.{◌≡◌, refl, sym, ap, ◌∙◌}
+use mathlib.Core.Path.{◌≡◌, refl}
 use mathlib.Core.Bool.{Bool, true, false, cond}
-use mathlib.Core.Logic.{◌⊎◌, inl, inr}
+use mathlib.Core.Logic.{◌⊎◌, ◌≢◌, inl, inr}
 use mathlib.Core.List.{List}
 use lib.Dec.{eqb, leb, ltb}
 use lib.Ieee.{Float, lt}
 use lib.ListN.{length}
 use Rattle.arith.specs.Double.{#1e-10}
-use Rattle.arith.proofs.Flags.{not_taken}
 use Rattle.segv.specs.Families.{Families, either_stopped}
 use Rattle.segv.specs.Row.{Slices, Numbered, answer, segv_row}
-use Rattle.requests.specs.declared.answers.SliceAnswer.TheVariants.{Refused}
 use Rattle.requests.specs.declared.checking.Kind.{Kind}
 use Rattle.requests.specs.declared.checking.Mode.{Mode}
-use Rattle.requests.specs.Answers.{given}
 use Rattle.requests.specs.Refusals.{row_refusal, mode_refusal, not_finite}
 use Rattle.rows.specs.Rows.{too_short, row_in, row_of, dlmf_in, dlmf_of}
 use Rattle.modes.specs.Coefficients.{coefficients_of}
 use Rattle.sheets.specs.Sheet.{sheet_refusal, sheet_of}
-use Rattle.requests.proofs.Given.{given_refused}
 use Rattle.demands.specs.Demand1.{Demand1Rows, Demand1Dlmf, Demand1Coefficients, Demand1Sheets}
 
 module _ {A : Type 0} (places : A) where
@@ -36,11 +32,11 @@ module _ {A : Type 0} (places : A) where
   either true p q = p
   either false p q = q
 
-  keeps : (a : Numbered A) → Kept a → (k : ℕ) → given a.number ≡ Refused k → a.after ≡ places
-  keeps a p k e = go p.holds
+  keeps : (a : Numbered A) → Kept a → a.number ≢ 0 → a.after ≡ places
+  keeps a p n = go p.holds
     where
       go : (a.number ≡ 0) ⊎ (a.after ≡ places) → a.after ≡ places
-      go (inl z) = not_taken (sym (given_refused a.number k (sym e)).0 ∙ ap (λ (n : ℕ). eqb n 0) z)
+      go (inl z) = absurd (n z)
       go (inr s) = s
 
 segv_kept : (r : Families) (n : ℕ) (l : Slices) → Kept l (segv_row r n l)

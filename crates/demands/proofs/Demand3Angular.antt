@@ -7,8 +7,7 @@ use lib.Dec.{eqb}
 use lib.Ieee.{Float, nan, inf, fin, neg}
 use Rattle.arith.specs.Choice.{abs}
 use Rattle.angular.proofs.Mirror.{mirror}
-use Rattle.requests.specs.declared.answers.Answer.{Answer}
-use Rattle.requests.specs.declared.answers.Answer.TheVariants.{Pair, Quadruple, Refused}
+use Rattle.requests.specs.Answers.{Answer, Pair, Quadruple, Refused}
 use Rattle.requests.specs.declared.checking.Mode.{Mode}
 use Rattle.requests.specs.Refusals.{sign_of}
 use Rattle.modes.specs.Angular.{outside, angular_refusal, angular_pair, angular_of}

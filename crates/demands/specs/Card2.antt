@@ -1,8 +1,7 @@
 -- Card 2, the first kind off the disc: what it has in common with operation 5, as a statement about the definitions of the public functions, and the refusals of both at the edges, as a table. `proofs/Card2.antt` proves both.
 use Rattle.std.specs.Prelude.{ℕ, ◌≡◌, List, [], ◌∷◌, Float}
 use Rattle.arith.specs.Double.{bits}
-use Rattle.requests.specs.declared.answers.Answer.{Answer}
-use Rattle.requests.specs.declared.answers.Answer.TheVariants.{Pair, Quadruple, Refused}
+use Rattle.requests.specs.Answers.{Answer, Pair, Quadruple, Refused}
 use Rattle.requests.specs.declared.checking.Mode.{Mode}
 use Rattle.modes.specs.Radial.{radial_of}
 use Rattle.modes.specs.FirstKind.{first_of}

@@ -1,8 +1,7 @@
 -- Card 5, the second kind off the disc: answers of operation 5 by each route, as a table. `proofs/Card5.antt` has one theorem over it. That operation 5 is refused where operation 8 is, by the same number, and the refusals of both at the edges are in `Card2.antt`.
 use Rattle.std.specs.Prelude.{ℕ, List, [], ◌∷◌}
 use Rattle.arith.specs.Double.{bits}
-use Rattle.requests.specs.declared.answers.Answer.{Answer}
-use Rattle.requests.specs.declared.answers.Answer.TheVariants.{Quadruple}
+use Rattle.requests.specs.Answers.{Answer, Quadruple}
 use Rattle.requests.specs.declared.checking.Mode.{Mode}
 
 -- a mode, the bits of cv and of x, and the answer

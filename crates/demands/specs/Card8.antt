@@ -2,7 +2,7 @@
 use Rattle.std.specs.Prelude.{ℕ, ◌+◌, ◌-◌, ◌*◌, ◌<◌, ◌≡◌, false, List, [], ◌∷◌, ◌++◌, map, Float, length, drop, replicate}
 use Rattle.arith.specs.Double.{at, bits, bits_of}
 use Rattle.segv.specs.Row.{Slices}
-use Rattle.requests.specs.declared.answers.Answer.TheVariants.{Pair}
+use Rattle.requests.specs.Answers.{Pair}
 use Rattle.requests.specs.declared.checking.Kind.{Kind}
 use Rattle.requests.specs.declared.checking.Kind.TheVariants.{Prolate}
 use Rattle.rows.specs.Rows.{row_of, too_short}

@@ -5,7 +5,7 @@ use Rattle.arith.specs.Double.{◌⊕◌, ◌⊖◌, ◌⊗◌, at, #0, #1, #1e-
 use Rattle.segv.specs.declared.bisection.Bracket.{Bracket}
 use Rattle.segv.specs.Row.{Slices}
 use Rattle.segv.specs.Sound.{SoundIn}
-use Rattle.requests.specs.declared.answers.Answer.TheVariants.{Pair}
+use Rattle.requests.specs.Answers.{Pair}
 use Rattle.requests.specs.declared.checking.Kind.{Kind}
 use Rattle.requests.specs.declared.checking.Kind.TheVariants.{Prolate, Oblate}
 use Rattle.requests.specs.declared.checking.Mode.{Mode}

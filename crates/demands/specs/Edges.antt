@@ -2,8 +2,7 @@
 use Rattle.std.specs.Prelude.{ℕ, List, [], ◌∷◌, map, Float, length, take}
 use Rattle.arith.specs.Double.{bits, bits_of}
 use Rattle.arith.specs.Root.{sqrt}
-use Rattle.requests.specs.declared.answers.Answer.{Answer}
-use Rattle.requests.specs.declared.answers.Answer.TheVariants.{Pair, Quadruple, Refused}
+use Rattle.requests.specs.Answers.{Answer, Pair, Quadruple, Refused}
 use Rattle.requests.specs.declared.checking.Kind.{Kind}
 use Rattle.requests.specs.declared.checking.Kind.TheVariants.{Prolate, Oblate}
 use Rattle.requests.specs.declared.checking.Mode.{Mode}

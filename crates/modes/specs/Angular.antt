@@ -4,10 +4,9 @@ use Rattle.std.specs.Float.{nan, inf, fin}
 use Rattle.std.specs.Float.Ieee.{lt}
 use Rattle.arith.specs.Double.{#1}
 use Rattle.arith.specs.Choice.{abs}
-use Rattle.angular.specs.declared.aswfa.Pair as Angular
+use Rattle.expansion.specs.declared.values.Pair as values
 use Rattle.angular.specs.Aswfa.{aswfa}
-use Rattle.requests.specs.declared.answers.Answer.{Answer}
-use Rattle.requests.specs.declared.answers.Answer.TheVariants.{Pair, Refused}
+use Rattle.requests.specs.Answers.{Answer, Pair, Refused}
 use Rattle.requests.specs.declared.checking.Kind.{Kind}
 use Rattle.requests.specs.declared.checking.Mode.{Mode}
 use Rattle.requests.specs.Refusals.{sign_of, mode_refusal, not_finite}
@@ -23,7 +22,7 @@ unfoldable pub angular_refusal : Mode → Float → Float → ℕ
 angular_refusal mode cv x = cond (eqb (mode_refusal mode) 0) (cond (not_finite cv) 7 (cond (outside x) 8 0)) (mode_refusal mode)
 
 -- `aswfa` with the kind's sign
-unfoldable pub angular_pair : Kind → Mode → Float → Float → Angular.Pair
+unfoldable pub angular_pair : Kind → Mode → Float → Float → values.Pair
 angular_pair kind mode cv x = aswfa mode.m mode.n mode.c cv (sign_of kind) x
 
 -- the refusal's number, or the pair

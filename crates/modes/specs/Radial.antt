@@ -1,11 +1,10 @@
 -- The oblate radial functions of a mode at x, on the disc and off it (operation 5). Definitions only.
-use Rattle.std.specs.Prelude.{ℕ, cond, eqb, Float}
-use Rattle.radial.specs.declared.rswfo.Kinds.{Kinds}
-use Rattle.radial.specs.declared.rswfo.Kinds.TheVariants.{Both, Neither}
+use Rattle.std.specs.Prelude.{ℕ, cond, eqb, Float, Option, Some, None, Result, Ok, Err}
+use Rattle.radial.specs.declared.rswfo.Radial.{Radial}
 use Rattle.radial.specs.Rswfo.{rswfo}
-use Rattle.requests.specs.declared.answers.Answer.{Answer}
-use Rattle.requests.specs.declared.answers.Answer.TheVariants.{Quadruple, Refused}
 use Rattle.requests.specs.declared.checking.Mode.{Mode}
+use Rattle.requests.specs.declared.refusals.Refusal.{Refusal}
+use Rattle.requests.specs.Answers.{Answer, Quadruple, Refused, number_of}
 use Rattle.requests.specs.Refusals.{no_parameter, radial_mode_refusal, too_far}
 
 -- ---- 8: x is NaN, infinite or below zero, which −0 isn't. It is what 5 asks of c: `no_parameter`
@@ -14,10 +13,15 @@ use Rattle.requests.specs.Refusals.{no_parameter, radial_mode_refusal, too_far}
 unfoldable pub radial_refusal : Mode → Float → Float → ℕ
 radial_refusal mode cv x = let k = radial_mode_refusal mode cv in cond (eqb k 0) (cond (no_parameter x) 8 (cond (too_far mode x) 11 0)) k
 
+-- what a caller is answered
+abbrev pub quadruple_answer : Result Radial Refusal → Answer
+quadruple_answer (Ok r) = Quadruple r.first.value r.first.derivative r.second.value r.second.derivative
+quadruple_answer (Err refusal) = Refused (number_of refusal)
+
 -- ---- 12: a trial order of the Bessel functions is out of range
-unfoldable pub quadruple_or_refusal : Kinds → Answer
-quadruple_or_refusal (Both r) = Quadruple r.first.value r.first.derivative r.second.value r.second.derivative
-quadruple_or_refusal Neither = Refused 12
+unfoldable pub quadruple_or_refusal : Option Radial → Answer
+quadruple_or_refusal (Some r) = Quadruple r.first.value r.first.derivative r.second.value r.second.derivative
+quadruple_or_refusal None = Refused 12
 
 -- the refusal's number, or `rswfo` with kf = 3
 unfoldable pub radial_of : Mode → Float → Float → Answer

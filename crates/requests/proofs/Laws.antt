@@ -1,38 +1,58 @@
 -- How the definitions of refusals unfold, in the form in which the proofs of the code meet them. Assumes nothing.
-use Prim.Native.Nat.{ℕ, ◌+◌, ◌-◌, ◌*◌, ◌≤◌, ◌<◌}
+use Prim.Native.Nat.{ℕ, ◌-◌, ◌≤◌, ◌<◌}
 use native.Mathlib.Omega.{arith}
-use mathlib.Core.Path.{◌≡◌, refl, sym, ap, subst}
-use mathlib.Core.Bool.{Bool, true, false, cond, ◌||◌}
-use borrow.Author.Tests.{eqb-true, ltb-false, lt-ltb, le-ltb, ne_eqb}
-use lib.Dec.{T, ltb, eqb}
-use lib.Ieee.{Float, nan, inf, fin, lt, eq, ne, div, of_bits}
-use lib.Ieee.Compare.{differs_from_itself}
-use Rattle.arith.specs.Double.{◌⊘◌, ◌⊗◌, #0, #1}
-use Rattle.arith.specs.Choice.{abs}
+use mathlib.Core.Path.{◌≡◌, refl, ap}
+use mathlib.Core.Bool.{Bool, true, false, cond, not, ◌||◌}
+use borrow.Author.Tests.{eqb-true, ltb-false}
+use lib.Dec.{ltb, eqb}
+use lib.Ieee.{Float, nan, inf, fin, lt, of_bits}
+use Rattle.std.specs.Float.{float_is_finite}
+use Rattle.std.specs.Prelude.{Result, Ok, Err, IsErrAnd}
+use Rattle.arith.specs.Double.{#0}
 use Rattle.arith.specs.Truncation.{whole_part}
-use Rattle.arith.proofs.Flags.{not_left, neither}
+use Rattle.arith.proofs.Flags.{not_left, not_taken, neither}
 use Rattle.arith.proofs.Laws.{whole_below}
-use Rattle.expansion.specs.Terms.{h_of, terms_of, Usable, #175}
+use Rattle.expansion.specs.Terms.{h_of, Usable, #175}
 use Rattle.requests.specs.declared.checking.Mode.{Mode}
-use Rattle.requests.specs.Refusals.{out_of_range, no_parameter, refusal_of, row_refusal, mode_refusal, entries_of, #291, too_many_terms, not_finite, radial_mode_refusal, #200, too_far}
+use Rattle.requests.specs.declared.refusals.Refusal.{Refusal}
+use Rattle.requests.specs.declared.refusals.Refusal.TheVariants.{CutShort, WrongMark, UnknownOperation, OutOfRange, SizeParameter, TooLarge, CharacteristicValue, Argument, ShortSlice, OutOfSteps, TooFar, NoOrder, SheetTooLarge}
+use Rattle.requests.specs.Answers.{number_of, code}
+use Rattle.requests.specs.Refusals.{out_of_range, no_parameter, refusal_of, row_refusal, mode_refusal, entries_of, #291, not_finite}
+
+-- ---- numbers
+-- no refusal has the number of none
+pub some_number : (e : Refusal) → number_of e ≡ 0 → ⊥
+some_number CutShort h = omega arith
+some_number WrongMark h = omega arith
+some_number UnknownOperation h = omega arith
+some_number OutOfRange h = omega arith
+some_number SizeParameter h = omega arith
+some_number TooLarge h = omega arith
+some_number CharacteristicValue h = omega arith
+some_number Argument h = omega arith
+some_number ShortSlice h = omega arith
+some_number OutOfSteps h = omega arith
+some_number TooFar h = omega arith
+some_number NoOrder h = omega arith
+some_number SheetTooLarge h = omega arith
+
+-- what `?` hands on has the number of the error that was made of it
+pub error_code : {A : Type 0} (r : Result A Refusal) (e : Refusal) → IsErrAnd r (λ refusal. refusal ≡ e) → code r ≡ number_of e
+error_code (Ok x) e h = absurd h
+error_code (Err refusal) e h = ap number_of h
 
 -- ---- refusal 5
-pub nan_refused : (c : Float) → ne c c ≡ true → true ≡ no_parameter c
-unfolding no_parameter
-nan_refused c h = sym (ap no_parameter (differs_from_itself c (subst T (sym h) tt)))
+pub endless_refused : (c : Float) → float_is_finite c ≡ false → true ≡ no_parameter c
+unfolding no_parameter float_is_finite
+endless_refused nan h = refl
+endless_refused (inf s) h = refl
+endless_refused (fin s m e) h = not_left h
 
-pub negative_refused : (c : Float) → lt c #0 ≡ true → true ≡ no_parameter c
-unfolding no_parameter
-negative_refused nan h = refl
-negative_refused (inf s) h = refl
-negative_refused (fin s m e) h = sym h
-
-pub infinite_refused : (c : Float) → ne c c ≡ false → lt c #0 ≡ false → eq c (#1 ⊘ #0) ≡ no_parameter c
-unfolding no_parameter ne eq lt div of_bits
-infinite_refused nan h k = not_left h
-infinite_refused (inf true) h k = not_left k
-infinite_refused (inf false) h k = refl
-infinite_refused (fin s m e) h k = sym k
+pub negative_refused : (c : Float) → float_is_finite c ≡ true → lt c #0 ≡ no_parameter c
+unfolding no_parameter float_is_finite
+negative_refused nan h = not_taken h
+negative_refused (inf s) h = not_taken h
+negative_refused (fin s m e) h = refl
 
 pub not_negative : (c : Float) → no_parameter c ≡ false → lt c #0 ≡ false
 unfolding no_parameter
@@ -41,21 +61,13 @@ not_negative (inf s) h = not_left h
 not_negative (fin s m e) h = h
 
 -- ---- refusal 7
-pub nan_not_finite : (x : Float) → ne x x ≡ true → true ≡ not_finite x
-unfolding not_finite
-nan_not_finite x h = sym (ap not_finite (differs_from_itself x (subst T (sym h) tt)))
-
-pub infinite_not_finite : (x a : Float) → ne x x ≡ false → a ≡ abs x → eq a (#1 ⊘ #0) ≡ not_finite x
-unfolding not_finite ne eq div of_bits abs
-infinite_not_finite nan a h e = not_left h
-infinite_not_finite (inf s) a h e = rw e
-infinite_not_finite (fin s m d) a h e = rw e
+pub finite_is : (x : Float) → not (float_is_finite x) ≡ not_finite x
+unfolding not_finite float_is_finite
+finite_is nan = refl
+finite_is (inf s) = refl
+finite_is (fin s m e) = refl
 
 -- ---- a mode that is not refused
-pub in_range : (x : Mode) → x.m ≤ 199 → x.m ≤ x.n → x.n - x.m ≤ 199 → out_of_range x ≡ false
-unfolding out_of_range
-in_range x a b c = rw (le-ltb 199 x.m a, le-ltb x.n x.m b, le-ltb 199 (x.n - x.m) c)
-
 pub record Accepted (x : Mode) : Type 0 where
   pub order : x.m ≤ 199
   pub rising : x.m ≤ x.n
@@ -70,16 +82,6 @@ none_applies true b c h = absurd (omega arith)
 none_applies false true c h = absurd (omega arith)
 none_applies false false true h = (refl, refl, refl)
 none_applies false false false h = absurd (omega arith)
-
--- the last of 4, 5 and 6: by the limit alone
-module _ (limit : Float) (x : Mode) (p : Bool) (r : out_of_range x ≡ false) (hp : p ≡ no_parameter x.c) (np : p ≡ false) (h : Float) (e : h ≡ h_of (x.n - x.m) x.c) where
-  pub below_limit : lt h limit ≡ true → 0 ≡ refusal_of limit x
-  unfolding refusal_of
-  below_limit t = rw (r, ← hp, np, ← e, t)
-
-  pub at_limit : lt h limit ≡ false → 6 ≡ refusal_of limit x
-  unfolding refusal_of
-  at_limit t = rw (r, ← hp, np, ← e, t)
 
 passes : (limit : Float) (x : Mode) → refusal_of limit x ≡ 0 → (out_of_range x ≡ false) × (no_parameter x.c ≡ false) × (lt (h_of (x.n - x.m) x.c) limit ≡ true)
 unfolding refusal_of
@@ -127,41 +129,3 @@ none k j h = go (eqb k 0) refl
     go : (t : Bool) → eqb k 0 ≡ t → k ≡ 0
     go true e = eqb-true k 0 e
     go false e = rw e at h
-
--- ---- radial functions
-module _ (mode : Mode) (cv : Float) (k : ℕ) (h : k ≡ mode_refusal mode) where
-  pub common_early : (k ≡ 0 → ⊥) → k ≡ radial_mode_refusal mode cv
-  unfolding radial_mode_refusal
-  common_early n = rw (← h, ne_eqb k 0 n)
-
-  module _ (z : k ≡ 0) where
-    pub common_terms : too_many_terms mode ≡ true → 6 ≡ radial_mode_refusal mode cv
-    unfolding radial_mode_refusal
-    common_terms t = rw (← h, z, t)
-
-    pub common_value : too_many_terms mode ≡ false → not_finite cv ≡ true → 7 ≡ radial_mode_refusal mode cv
-    unfolding radial_mode_refusal
-    common_value t v = rw (← h, z, t, v)
-
-    pub common_none : too_many_terms mode ≡ false → not_finite cv ≡ false → 0 ≡ radial_mode_refusal mode cv
-    unfolding radial_mode_refusal
-    common_none t v = rw (← h, z, t, v)
-
-pub common_usable : (mode : Mode) (cv : Float) → radial_mode_refusal mode cv ≡ 0 → mode_refusal mode ≡ 0
-unfolding radial_mode_refusal
-common_usable mode cv h = none (mode_refusal mode) _ h
-
--- ---- refusal 11
-module _ (mode : Mode) (x : Float) where
-  pub far_zero : eq x #0 ≡ true → false ≡ too_far mode x
-  unfolding too_far
-  far_zero o = rw o
-
-  module _ (o : eq x #0 ≡ false) (n : ℕ) (h : n ≡ terms_of (mode.n - mode.m) mode.c) where
-    pub far_orders : 251 < 2 * n + mode.m → true ≡ too_far mode x
-    unfolding too_far
-    far_orders t = rw (o, ← h, lt-ltb 251 (2 * n + mode.m) t)
-
-    pub far_argument : 2 * n + mode.m ≤ 251 → lt #200 (mode.c ⊗ x) ≡ too_far mode x
-    unfolding too_far
-    far_argument t = rw (o, ← h, le-ltb 251 (2 * n + mode.m) t)

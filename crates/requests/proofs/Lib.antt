@@ -1,3 +1,2 @@
 -- Lemmas on the definitions, for the proofs of the code and for the crates above.
 pub mod Laws
-pub mod Given

@@ -1,17 +1,36 @@
 -- What a caller is answered. Definitions only.
-use Rattle.std.specs.Prelude.{ℕ, cond, eqb}
-use Rattle.segv.specs.Row.{Numbered}
-use Rattle.requests.specs.declared.answers.SliceAnswer.{SliceAnswer}
-use Rattle.requests.specs.declared.answers.SliceAnswer.TheVariants.{Filled, Refused}
+use Rattle.std.specs.Prelude.{ℕ, Result, Ok, Err, Float}
+use Rattle.expansion.specs.declared.values.Pair as values
+use Rattle.requests.specs.declared.refusals.Refusal.{Refusal}
+use Rattle.requests.specs.declared.refusals.Refusal.TheVariants.{CutShort, WrongMark, UnknownOperation, OutOfRange, SizeParameter, TooLarge, CharacteristicValue, Argument, ShortSlice, OutOfSteps, TooFar, NoOrder, SheetTooLarge}
 
--- the answer with document 01's number: 0 is no refusal
-unfoldable pub given : ℕ → SliceAnswer
-given k = cond (eqb k 0) Filled (Refused k)
+-- document 01's number of a refusal
+abbrev pub number_of : Refusal → ℕ
+number_of CutShort = 1
+number_of WrongMark = 2
+number_of UnknownOperation = 3
+number_of OutOfRange = 4
+number_of SizeParameter = 5
+number_of TooLarge = 6
+number_of CharacteristicValue = 7
+number_of Argument = 8
+number_of ShortSlice = 9
+number_of OutOfSteps = 10
+number_of TooFar = 11
+number_of NoOrder = 12
+number_of SheetTooLarge = 13
 
--- what a caller gets from a call that fills slices: the answer, and the slices afterwards
-pub record Outcome (A : Type 0) : Type 0 where
-  pub answer : SliceAnswer
-  pub after : A
+-- and of an answer: 0 is no refusal
+abbrev pub code : {A : Type 0} → Result A Refusal → ℕ
+code (Ok x) = 0
+code (Err refusal) = number_of refusal
 
-abbrev pub outcome : {A : Type 0} → Numbered A → Outcome A
-outcome a = record { answer = given a.number; after = a.after }
+-- ---- to a call for one mode: a value and its derivative; those of the first kind, then of the second; or document 01's number
+pub data Answer : Type 0 where
+  Pair : Float → Float → Answer
+  Quadruple : Float → Float → Float → Float → Answer
+  Refused : ℕ → Answer
+
+abbrev pub pair_answer : Result values.Pair Refusal → Answer
+pair_answer (Ok p) = Pair p.value p.derivative
+pair_answer (Err refusal) = Refused (number_of refusal)

@@ -5,6 +5,7 @@ use Rattle.std.specs.Float.Ieee.{lt, eq, neg}
 use Rattle.arith.specs.Double.{◌⊗◌, bits, #0, #1}
 use Rattle.arith.specs.Truncation.{whole_part}
 use Rattle.expansion.specs.Terms.{#175, h_of, terms_of}
+use Rattle.expansion.specs.declared.terms.Mode as expansion
 use Rattle.requests.specs.declared.checking.Kind.{Kind}
 use Rattle.requests.specs.declared.checking.Kind.TheVariants.{Prolate, Oblate}
 use Rattle.requests.specs.declared.checking.Mode.{Mode}
@@ -45,6 +46,10 @@ row_refusal x = refusal_of #291 x
 
 abbrev pub mode_refusal : Mode → ℕ
 mode_refusal x = refusal_of #175 x
+
+-- what was asked for, of a mode that the routines over its coefficients take
+abbrev pub asked : expansion.Mode → Mode
+asked mode = record { m = mode.m; n = mode.n; c = mode.c }
 
 -- ---- 6 for operations 5 and 8: N + m is above 200
 unfoldable pub too_many_terms : Mode → Bool

@@ -1,15 +1,20 @@
 // A mode, its limits and its refusals.
-ghost use Rattle.std.specs.Prelude.{◌≡◌, ◌-◌, ◌<◌, ◌≤◌};
-ghost use Rattle.expansion.specs.Terms.{h_of, terms_of};
+ghost use Rattle.std.specs.Prelude.{◌≡◌, ◌-◌, ◌<◌, ◌≤◌, IfOk};
+ghost use Rattle.expansion.specs.Terms.{h_of};
+ghost use Rattle.requests.specs.Answers.{code};
 ghost use Rattle.requests.specs.Refusals as Refusals;
 
-#[derive(Clone, Copy)]
+use super::refusals::Refusal;
+use expansion::terms;
+
+#[derive(Clone, Copy, Debug, PartialEq, Eq)]
 pub enum Kind {
     Prolate,
     Oblate,
 }
 
-// The order m, the degree n and the size parameter c.
+// The order m, the degree n and the size parameter c, as a record has them. `terms::Mode` has the same
+// three, but only of modes that are not refused.
 #[derive(Clone, Copy)]
 pub struct Mode {
     pub m: u16,
@@ -17,7 +22,8 @@ pub struct Mode {
     pub c: f64,
 }
 
-// Document 01's kd.
+// Document 01's kd. A name, not `From<Kind> for f64`: a kind is no number.
+#[tactic(auto, unfolding(crate::specs::Refusals::sign_of))]
 pub fn sign(kind: Kind) -> f64
     ensures { result ≡ Refusals.sign_of kind }
 {
@@ -28,40 +34,33 @@ pub fn sign(kind: Kind) -> f64
 }
 
 // Whether c is NaN, infinite or below zero; off the disc, x is asked the same.
+#[tactic(auto, using(crate::proofs::Laws::endless_refused, crate::proofs::Laws::negative_refused))]
 pub fn no_parameter(c: f64) -> bool
     ensures { result ≡ Refusals.no_parameter c }
 {
-    if c != c {
-        return true;
-    }
-    if c < 0.0 {
-        return true;
-    }
-    c == 1.0 / 0.0
+    !c.is_finite() || c < 0.0
 }
 
 // Whether x is NaN or infinite.
+#[tactic(auto, using(crate::proofs::Laws::finite_is))]
 pub fn not_finite(x: f64) -> bool
     ensures { result ≡ Refusals.not_finite x }
 {
-    if x != x {
-        return true;
-    }
-    arith::abs(x) == 1.0 / 0.0
+    !x.is_finite()
 }
 
 impl Mode {
     // The largest m, and the largest n - m.
     pub const LARGEST: u16 = 199;
-    // What document 01's H stays below, for a row and for all else.
+    // What document 01's H stays below for a row.
     pub const ROW_LIMIT: f64 = 291.0;
-
+    // And for all else.
     pub const LIMIT: f64 = 175.0;
     // What document 01's N and m do not exceed together, for a radial function.
     pub const PLACES: u32 = 200;
-    // What 2N + m does not exceed for a radial function off the disc, and what c * x does not.
+    // What 2N + m does not exceed for a radial function off the disc.
     pub const ORDERS: u32 = 251;
-
+    // And what c * x does not.
     pub const ARGUMENT: f64 = 200.0;
 
     // Document 01's H: (n - m)/2 + c.
@@ -69,49 +68,51 @@ impl Mode {
         requires { self.m ≤ self.n }
         ensures { result ≡ h_of (self.n - self.m) self.c }
     {
-        expansion::terms::h((self.n - self.m) as u32, self.c)
+        terms::h((self.n - self.m) as u32, self.c)
     }
 
     // Whether m is above 199, n below m, or n - m above 199.
+    #[tactic(auto, unfolding(crate::specs::Refusals::out_of_range))]
     pub fn out_of_range(self) -> bool
         ensures { result ≡ Refusals.out_of_range self }
     {
-        if Mode::LARGEST < self.m {
-            return true;
-        }
-        if self.n < self.m {
-            return true;
-        }
-        Mode::LARGEST < self.n - self.m
+        Mode::LARGEST < self.m || self.n < self.m || Mode::LARGEST < self.n - self.m
     }
 
-    // 4, 5 or 6, the first that applies, or 0.
-    fn refusal(self, limit: f64) -> u8
-        ensures { result ≡ Refusals.refusal_of limit self }
+    // The first of 4, 5 and 6 that applies.
+    #[tactic(auto, unfolding(crate::specs::Refusals::refusal_of))]
+    fn refusal(self, limit: f64) -> Result<(), Refusal>
+        ensures { code result ≡ Refusals.refusal_of limit self }
     {
         if self.out_of_range() {
-            return 4;
+            return Err(Refusal::OutOfRange);
         }
         if no_parameter(self.c) {
-            return 5;
+            return Err(Refusal::SizeParameter);
         }
         if self.h() < limit {
-            return 0;
+            return Ok(());
         }
-        6
+        Err(Refusal::TooLarge)
     }
 
-    pub fn row_refusal(self) -> u8
-        ensures { result ≡ Refusals.row_refusal self }
+    pub fn row_refusal(self) -> Result<(), Refusal>
+        ensures { code result ≡ Refusals.row_refusal self }
     {
         self.refusal(Mode::ROW_LIMIT)
     }
 
-    // Of everything but a row.
-    pub fn mode_refusal(self) -> u8
-        ensures { result ≡ Refusals.mode_refusal self }
+    // The mode as the routines over its coefficients take it. Refused where anything but a row is.
+    pub fn usable(self) -> Result<terms::Mode, Refusal>
+        ensures refused { code result ≡ Refusals.mode_refusal self }
+        ensures same { IfOk result (λ mode. Refusals.asked mode ≡ self) }
     {
-        self.refusal(Mode::LIMIT)
+        self.refusal(Mode::LIMIT)?;
+        Ok(terms::Mode {
+            m: self.m as u32,
+            n: self.n as u32,
+            c: self.c,
+        })
     }
 
     // Document 01's cs, which is DLMF's gamma squared: c * c, negated for oblate modes.
@@ -121,39 +122,30 @@ impl Mode {
         self.c * self.c * sign(kind)
     }
 
-    // How many terms the expansion of a mode has: document 01's N.
-    fn terms(self) -> u32
-        requires { Refusals.mode_refusal self ≡ 0 }
-        ensures value { result ≡ terms_of (self.n - self.m) self.c }
-        ensures upper_bound { result < 200 }
+    // The mode as a radial function with the characteristic value cv takes it. The first of 4, 5, 6 and 7
+    // that applies to one.
+    #[tactic(auto, using(crate::proofs::Laws::some_number), unfolding(crate::specs::Refusals::radial_mode_refusal))]
+    pub fn usable_radial(self, cv: f64) -> Result<terms::Mode, Refusal>
+        ensures refused { code result ≡ Refusals.radial_mode_refusal self cv }
+        ensures same { IfOk result (λ mode. Refusals.asked mode ≡ self) }
     {
-        expansion::terms::terms((self.n - self.m) as u32, self.c)
-    }
-
-    // Whether N + m is above 200.
-    fn too_many_terms(self) -> bool
-        requires { Refusals.mode_refusal self ≡ 0 }
-        ensures { result ≡ Refusals.too_many_terms self }
-    {
-        Mode::PLACES < self.terms() + (self.m as u32)
-    }
-
-    // 4, 5, 6 or 7 of a radial function, the first that applies, or 0.
-    pub fn radial_mode_refusal(self, cv: f64) -> u8
-        ensures { result ≡ Refusals.radial_mode_refusal self cv }
-    {
-        let refused = self.mode_refusal();
-        if refused != 0 {
-            return refused;
-        }
-        if self.too_many_terms() {
-            return 6;
+        let mode = self.usable()?;
+        if too_many_terms(mode) {
+            return Err(Refusal::TooLarge);
         }
         if not_finite(cv) {
-            return 7;
+            return Err(Refusal::CharacteristicValue);
         }
-        0
+        Ok(mode)
     }
+}
+
+// Whether N + m is above 200.
+#[tactic(auto, unfolding(crate::specs::Refusals::too_many_terms))]
+fn too_many_terms(mode: terms::Mode) -> bool
+    ensures { result ≡ Refusals.too_many_terms (Refusals.asked mode) }
+{
+    Mode::PLACES < mode.terms() + mode.m
 }
 
 // How many entries the matrix of a row has: document 01's K.
@@ -165,14 +157,14 @@ pub fn entries(mode: Mode) -> u32
 }
 
 // Whether x is not zero, and 2N + m is above 251 or c * x above 200.
-pub fn too_far(mode: Mode, x: f64) -> bool
-    requires { Refusals.mode_refusal mode ≡ 0 }
-    ensures { result ≡ Refusals.too_far mode x }
+#[tactic(auto, unfolding(crate::specs::Refusals::too_far))]
+pub fn too_far(mode: terms::Mode, x: f64) -> bool
+    ensures { result ≡ Refusals.too_far (Refusals.asked mode) x }
 {
     if x == 0.0 {
         return false;
     }
-    if Mode::ORDERS < 2 * mode.terms() + (mode.m as u32) {
+    if Mode::ORDERS < 2 * mode.terms() + mode.m {
         return true;
     }
     Mode::ARGUMENT < mode.c * x

@@ -3,30 +3,35 @@ ghost use Rattle.std.specs.Prelude.{◌≡◌};
 ghost use Rattle.requests.specs.Operations.{operation_of};
 
 use super::checking::Kind;
+use super::refusals::Refusal;
 
-#[derive(Clone, Copy)]
+#[derive(Clone, Copy, Debug, PartialEq, Eq)]
 pub enum Operation {
     Row(Kind),
     Angular(Kind),
     Radial,
     DlmfRow(Kind),
     FirstKind,
-    Refused(u8),
 }
 
-// Refusal 3 where the number is not 1 to 8.
-pub fn operation_of(number: u8) -> Operation
-    ensures { result ≡ operation_of number }
-{
-    match number {
-        1 => Operation::Row(Kind::Prolate),
-        2 => Operation::Row(Kind::Oblate),
-        3 => Operation::Angular(Kind::Prolate),
-        4 => Operation::Angular(Kind::Oblate),
-        5 => Operation::Radial,
-        6 => Operation::DlmfRow(Kind::Prolate),
-        7 => Operation::DlmfRow(Kind::Oblate),
-        8 => Operation::FirstKind,
-        _ => Operation::Refused(3),
+impl TryFrom<u8> for Operation {
+    type Error = Refusal;
+
+    ghost try_from_gives = { λ number asked. asked ≡ operation_of number };
+
+    // Refused where the number is not 1 to 8.
+    #[tactic(auto, unfolding(crate::specs::Operations::operation_of))]
+    fn try_from(number: u8) -> Result<Operation, Refusal> {
+        match number {
+            1 => Ok(Operation::Row(Kind::Prolate)),
+            2 => Ok(Operation::Row(Kind::Oblate)),
+            3 => Ok(Operation::Angular(Kind::Prolate)),
+            4 => Ok(Operation::Angular(Kind::Oblate)),
+            5 => Ok(Operation::Radial),
+            6 => Ok(Operation::DlmfRow(Kind::Prolate)),
+            7 => Ok(Operation::DlmfRow(Kind::Oblate)),
+            8 => Ok(Operation::FirstKind),
+            _ => Err(Refusal::UnknownOperation),
+        }
     }
 }

@@ -1,9 +1,9 @@
 -- How the definitions of rows unfold, in the form in which the proofs of the code meet them. Assumes nothing.
-use Prim.Native.Nat.{ℕ, ◌+◌, ◌-◌, ◌≤◌, ◌<◌}
+use Prim.Native.Nat.{ℕ, ◌+◌, ◌-◌, ◌<◌}
 use mathlib.Core.Path.{◌≡◌, refl, ◌∙◌}
 use mathlib.Core.Bool.{Bool, true, false, cond}
 use mathlib.Core.List.{List}
-use borrow.Author.Tests.{eqb-true, le-leb, lt-leb, ne_eqb}
+use borrow.Author.Tests.{eqb-true, lt-leb, ne_eqb}
 use lib.Dec.{eqb}
 use lib.Ieee.{Float, lt}
 use lib.ListN.{length, replicate}
@@ -44,46 +44,23 @@ module _ (kind : Kind) (x : Mode) (allowance : ℕ) (l : Slices) where
   unfolding row_in
   bisected_way a cs k t hs hk e = rw (t, ← hs, ← hk) e
 
-  -- ---- the whole row
-  module _ (k : ℕ) (h : k ≡ row_refusal x) where
-    pub early : (k ≡ 0 → ⊥) → answer k l ≡ row_of kind x allowance l
-    unfolding row_of
-    early n = rw (← h, ne_eqb k 0 n)
-
-    pub late : (a : Numbered Slices) → k ≡ 0 → too_short x l ≡ false → a ≡ row_in kind x allowance l → a ≡ row_of kind x allowance l
-    unfolding row_of
-    late a z t e = rw (← h, z, t) e
-
-    pub short : k ≡ 0 → too_short x l ≡ true → answer 9 l ≡ row_of kind x allowance l
-    unfolding row_of
-    short z t = rw (← h, z, t)
-
 pub long_enough : (x : Mode) (l : Slices) → x.n - x.m < length l.values → x.n - x.m < length l.steps → x.n - x.m < length l.lowers → x.n - x.m < length l.uppers
     → x.n - x.m < length l.substituted → too_short x l ≡ false
 unfolding too_short
 long_enough x l a b c d e = rw (lt-leb _ _ a, lt-leb _ _ b, lt-leb _ _ c, lt-leb _ _ d, lt-leb _ _ e)
 
 -- ---- DLMF's form
-module _ (kind : Kind) (x : Mode) (allowance : ℕ) (xs : List Float) (k : ℕ) (h : k ≡ row_refusal x) where
-  pub dlmf_early : (k ≡ 0 → ⊥) → answer k xs ≡ dlmf_of kind x allowance xs
-  unfolding dlmf_of
-  dlmf_early n = rw (← h, ne_eqb k 0 n)
+module _ (kind : Kind) (x : Mode) (allowance : ℕ) (xs : List Float) (h : 0 ≡ row_refusal x) (l : x.n - x.m < length xs) (v : List Float) (s : List ℕ) (w u : List Float) (f : List ℕ)
+    (hv : v ≡ replicate 200 #0) (hs : s ≡ replicate 200 0) (hw : w ≡ replicate 200 #0) (hu : u ≡ replicate 200 #0) (hf : f ≡ replicate 200 0) (a : Numbered Slices)
+    (ha : a ≡ row_in kind x allowance (slices v s w u f)) where
+  in_blank : a ≡ row_in kind x allowance blank_slices
+  unfolding blank_slices
+  in_blank = ha ∙ rw (hv, hs, hw, hu, hf)
 
-  module _ (z : k ≡ 0) where
-    pub dlmf_short : length xs ≤ x.n - x.m → answer 9 xs ≡ dlmf_of kind x allowance xs
-    unfolding dlmf_of
-    dlmf_short l = rw (← h, z, le-leb (length xs) (x.n - x.m) l)
+  pub dlmf_refused : (a.number ≡ 0 → ⊥) → answer a.number xs ≡ dlmf_of kind x allowance xs
+  unfolding dlmf_of dlmf_in
+  dlmf_refused n = rw (← h, lt-leb (length xs) (x.n - x.m) l, ← in_blank, ne_eqb a.number 0 n)
 
-    module _ (l : x.n - x.m < length xs) (v : List Float) (s : List ℕ) (w u : List Float) (f : List ℕ) (hv : v ≡ replicate 200 #0) (hs : s ≡ replicate 200 0)
-        (hw : w ≡ replicate 200 #0) (hu : u ≡ replicate 200 #0) (hf : f ≡ replicate 200 0) (a : Numbered Slices) (ha : a ≡ row_in kind x allowance (slices v s w u f)) where
-      in_blank : a ≡ row_in kind x allowance blank_slices
-      unfolding blank_slices
-      in_blank = ha ∙ rw (hv, hs, hw, hu, hf)
-
-      pub dlmf_refused : (a.number ≡ 0 → ⊥) → answer a.number xs ≡ dlmf_of kind x allowance xs
-      unfolding dlmf_of dlmf_in
-      dlmf_refused n = rw (← h, z, lt-leb (length xs) (x.n - x.m) l, ← in_blank, ne_eqb a.number 0 n)
-
-      pub dlmf_done : (ys : List Float) (γ² : Float) → a.number ≡ 0 → γ² ≡ cs_of kind x → ys ≡ lessened a.after.values γ² (x.n - x.m + 1) xs → answer 0 ys ≡ dlmf_of kind x allowance xs
-      unfolding dlmf_of dlmf_in
-      dlmf_done ys γ² n g e = rw (← h, z, lt-leb (length xs) (x.n - x.m) l, ← in_blank, n, ← g, e)
+  pub dlmf_done : (ys : List Float) (γ² : Float) → a.number ≡ 0 → γ² ≡ cs_of kind x → ys ≡ lessened a.after.values γ² (x.n - x.m + 1) xs → answer 0 ys ≡ dlmf_of kind x allowance xs
+  unfolding dlmf_of dlmf_in
+  dlmf_done ys γ² n g e = rw (← h, lt-leb (length xs) (x.n - x.m) l, ← in_blank, n, ← g, e)

@@ -1,13 +1,15 @@
-// Rows of characteristic values.
+// Rows of characteristic values. A row's five slices are those that the C interface lends, handed on as
+// they come. Kind, mode and allowance come beside each other: nothing keeps the three, and a struct of
+// them would be taken apart in the one call that it is made for.
 #![tactic(auto)]
 
-ghost use Rattle.std.specs.Prelude.{◌≡◌, ◌-◌, ◌<◌, ◌≤◌, length, replicate};
+ghost use Rattle.std.specs.Prelude.{◌≡◌, ◌-◌, ◌<◌, ◌≤◌, length};
 ghost use Rattle.segv.specs.Row.{slices, written_row, answer};
 ghost use Rattle.requests.specs.Refusals.{row_refusal};
-ghost use Rattle.requests.specs.Answers.{outcome};
+ghost use Rattle.requests.specs.Answers.{code};
 ghost use Rattle.rows.specs.Rows.{zero_at, row_in, row_of, lessened, dlmf_of};
 
-use requests::{Kind, Mode, SliceAnswer};
+use requests::{Kind, Mode, Refusal};
 
 // The row where c is below 1e-10.
 fn zero_row(
@@ -23,8 +25,7 @@ fn zero_row(
     ensures { slices values.new steps.new lowers.new uppers.new substituted.new
         ≡ written_row (zero_at m) n (slices values.old steps.old lowers.old uppers.old substituted.old) }
 {
-    let mut j: usize = 0;
-    while j < n {
+    for j in 0..n {
         let k = m + (j as u32);
         let v = (k as f64) * ((k + 1) as f64);
         values[j] = v;
@@ -32,11 +33,11 @@ fn zero_row(
         lowers[j] = v;
         uppers[j] = v;
         substituted[j] = 0;
-        j = j + 1;
     }
 }
 
-// The row of a mode that is not refused, into slices that are long enough: 0, or 10.
+// The row of a mode that is not refused, into slices that are long enough. Refusal 10. That the mode is
+// not refused is asked here and in `requests::entries`: too few for a type of such modes.
 fn row_in(
     kind: Kind,
     mode: Mode,
@@ -46,10 +47,10 @@ fn row_in(
     lowers: &mut [f64],
     uppers: &mut [f64],
     substituted: &mut [u8],
-) -> u8
+) -> Result<(), Refusal>
     requires not_refused { row_refusal mode ≡ 0 }
     requires room { (mode.n - mode.m < length values.old) × (mode.n - mode.m < length steps.old) × (mode.n - mode.m < length lowers.old) × (mode.n - mode.m < length uppers.old) × (mode.n - mode.m < length substituted.old) }
-    ensures { answer result (slices values.new steps.new lowers.new uppers.new substituted.new)
+    ensures { answer (code result) (slices values.new steps.new lowers.new uppers.new substituted.new)
         ≡ row_in kind mode allowance (slices values.old steps.old lowers.old uppers.old substituted.old) }
 {
     let c = mode.c;
@@ -65,11 +66,11 @@ fn row_in(
             uppers,
             substituted,
         );
-        return 0;
+        return Ok(());
     }
     let cs = mode.cs(kind);
     let entries = requests::entries(mode);
-    segv::segv(
+    Ok(segv::segv(
         m,
         n,
         cs,
@@ -80,11 +81,14 @@ fn row_in(
         lowers,
         uppers,
         substituted,
-    )
+    )?)
 }
 
-// The refusal's number, or 0 with the slices filled.
-fn row_number(
+// The characteristic values of the modes from m to n, each with its step number, the bracket that its
+// stopping test used, and 1 where 1e-30 was put in for a zero pivot in a count made for it, else 0.
+// Refusals 4, 5, 6, 9 and 10.
+#[tactic(auto, using(requests::proofs::Laws::some_number), unfolding(crate::specs::Rows::row_of, crate::specs::Rows::too_short))]
+pub fn row(
     kind: Kind,
     mode: Mode,
     allowance: u32,
@@ -93,29 +97,19 @@ fn row_number(
     lowers: &mut [f64],
     uppers: &mut [f64],
     substituted: &mut [u8],
-) -> u8
-    ensures { answer result (slices values.new steps.new lowers.new uppers.new substituted.new)
+) -> Result<(), Refusal>
+    ensures { answer (code result) (slices values.new steps.new lowers.new uppers.new substituted.new)
         ≡ row_of kind mode allowance (slices values.old steps.old lowers.old uppers.old substituted.old) }
 {
-    let refused = mode.row_refusal();
-    if refused != 0 {
-        return refused;
-    }
+    mode.row_refusal()?;
     let last = (mode.n - mode.m) as usize;
-    if values.len() <= last {
-        return 9;
-    }
-    if steps.len() <= last {
-        return 9;
-    }
-    if lowers.len() <= last {
-        return 9;
-    }
-    if uppers.len() <= last {
-        return 9;
-    }
-    if substituted.len() <= last {
-        return 9;
+    if values.len() <= last
+        || steps.len() <= last
+        || lowers.len() <= last
+        || uppers.len() <= last
+        || substituted.len() <= last
+    {
+        return Err(Refusal::ShortSlice);
     }
     row_in(
         kind,
@@ -129,83 +123,34 @@ fn row_number(
     )
 }
 
-// The characteristic values of the modes from m to n, each with its step number, the bracket that its
-// stopping test used, and 1 where 1e-30 was put in for a zero pivot in a count made for it, else 0.
-// Refusals 4, 5, 6, 9 and 10.
-pub fn row(
-    kind: Kind,
-    mode: Mode,
-    allowance: u32,
-    values: &mut [f64],
-    steps: &mut [u32],
-    lowers: &mut [f64],
-    uppers: &mut [f64],
-    substituted: &mut [u8],
-) -> SliceAnswer
-    ensures { record { answer = result; after = slices values.new steps.new lowers.new uppers.new substituted.new }
-        ≡ outcome (row_of kind mode allowance (slices values.old steps.old lowers.old uppers.old substituted.old)) }
-{
-    requests::slice_answer(row_number(
-        kind,
-        mode,
-        allowance,
-        values,
-        steps,
-        lowers,
-        uppers,
-        substituted,
-    ))
-}
-
-// Room for the flags of the longest row.
-pub type Flags = [u8; 200];
-
-// All zero. Made by a call, an array is one value in the caller's proof.
-pub fn zero_flags() -> Flags
-    ensures { result ≡ replicate 200 0 }
-{
-    [0; 200]
-}
-
-// Room for the step numbers of the longest row.
-pub type Steps = [u32; 200];
-
-pub fn zero_steps() -> Steps
-    ensures { result ≡ replicate 200 0 }
-{
-    [0; 200]
-}
-
-// The first n values, each less gamma squared.
+// The first n values, each less gamma squared. By index, as n bounds both lists.
 fn lessen(values: &[f64; 200], gamma_squared: f64, n: usize, out: &mut [f64])
     requires { (n ≤ 200) × (n ≤ length out.old) }
     ensures { out.new ≡ lessened values.now gamma_squared n out.old }
 {
-    let mut j: usize = 0;
-    while j < n {
+    for j in 0..n {
         out[j] = values[j] - gamma_squared;
-        j = j + 1;
     }
 }
 
-// The refusal's number, or 0 with the slice filled.
-fn dlmf_number(kind: Kind, mode: Mode, allowance: u32, out: &mut [f64]) -> u8
-    ensures { answer result out.new ≡ dlmf_of kind mode allowance out.old }
+// The row in DLMF's form: each value less gamma squared, which is c * c for prolate modes and -c * c for
+// oblate ones. Refusals 4, 5, 6, 9 and 10.
+#[tactic(auto, using(requests::proofs::Laws::some_number), unfolding(crate::specs::Rows::dlmf_of))]
+pub fn dlmf_row(kind: Kind, mode: Mode, allowance: u32, out: &mut [f64]) -> Result<(), Refusal>
+    ensures { answer (code result) out.new ≡ dlmf_of kind mode allowance out.old }
 {
-    let refused = mode.row_refusal();
-    if refused != 0 {
-        return refused;
-    }
+    mode.row_refusal()?;
     let last = (mode.n - mode.m) as usize;
     if out.len() <= last {
-        return 9;
+        return Err(Refusal::ShortSlice);
     }
-    let mut values = expansion::sums::blank();
-    let mut steps = zero_steps();
-    let mut lowers = expansion::sums::blank();
-    let mut uppers = expansion::sums::blank();
-    let mut substituted = zero_flags();
-    let number = row_in(
+    // Five arrays, as the row goes into five slices.
+    let mut values: [f64; 200] = arith::filled(0.0);
+    let mut steps: [u32; 200] = arith::filled(0);
+    let mut lowers: [f64; 200] = arith::filled(0.0);
+    let mut uppers: [f64; 200] = arith::filled(0.0);
+    let mut substituted: [u8; 200] = arith::filled(0);
+    row_in(
         kind,
         mode,
         allowance,
@@ -214,18 +159,7 @@ fn dlmf_number(kind: Kind, mode: Mode, allowance: u32, out: &mut [f64]) -> u8
         &mut lowers,
         &mut uppers,
         &mut substituted,
-    );
-    if number != 0 {
-        return number;
-    }
+    )?;
     lessen(&values, mode.cs(kind), last + 1, out);
-    0
-}
-
-// The row in DLMF's form: each value less gamma squared, which is c * c for prolate modes and -c * c for
-// oblate ones. Refusals 4, 5, 6, 9 and 10.
-pub fn dlmf_row(kind: Kind, mode: Mode, allowance: u32, values: &mut [f64]) -> SliceAnswer
-    ensures { record { answer = result; after = values.new } ≡ outcome (dlmf_of kind mode allowance values.old) }
-{
-    requests::slice_answer(dlmf_number(kind, mode, allowance, values))
+    Ok(())
 }

@@ -1,7 +1,8 @@
--- `rows::row` meets its contract: the answer has the number that `row_number` gives. Assumes nothing.
-use mathlib.Core.Path.{ap}
-use Rattle.requests.specs.Answers.{outcome}
+-- `rows::row` meets its contract. Assumes nothing.
+use mathlib.Core.Path.{sym}
+use native.Mathlib.Omega.{arith}
+use Rattle.requests.proofs.Laws.{accepted}
 use Rattle.rows.proofs.row.Goals as goal
 
-pub returns : goal.returns
-returns c = rw c.slice_answer.ensures (ap outcome c.row_number.ensures)
+pub overflow_sub-last : goal.overflow_sub-last
+overflow_sub-last c = let ok = accepted c.args.mode (sym c.in_ok-row_refusal.ensures) in omega arith
