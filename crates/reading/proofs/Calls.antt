@@ -1,9 +1,11 @@
 -- The invariant of `answer_arrived`, with one law for each thing that a turn can meet. Assumes nothing.
 use Prim.Native.Nat.{ℕ, zero, suc, ◌+◌, ◌<◌, ◌≤◌}
 use mathlib.Core.Path.{◌≡◌, refl, sym, ap, ◌∙◌}
-use mathlib.Core.Bool.{Bool, true, false, true≢false}
+use mathlib.Core.Logic.{◌≢◌}
+use mathlib.Core.Bool.{Bool, true, false, cond}
 use mathlib.Core.List.{List, [], ◌++◌}
 use native.Mathlib.Omega.{arith}
+use Rattle.std.proofs.Common.{rules}
 use borrow.Author.Tests.{le-leb, lt-leb}
 use lib.ListN.{length}
 use Rattle.stream.specs.declared.stream.Progress.{Progress}
@@ -11,7 +13,41 @@ use Rattle.stream.specs.Inside.Calls.{Answered, answered, progress, longest}
 use Rattle.stream.specs.Readings.{calls_in, answers_to}
 use Rattle.stream.proofs.StreamLaws.{moves}
 use Rattle.stream.proofs.Readings.{further, Enough, calls_refused, calls_through, calls_on}
-use Rattle.reading.specs.Loop.{Answers}
+use Rattle.reading.specs.declared.State.{State}
+use Rattle.reading.specs.declared.State.TheVariants.{Going, Refused, Unread}
+use Rattle.reading.specs.Loop.{Answers, state_of}
+
+-- ---- what a state tells
+refused≢going : Refused ≢ Going
+refused≢going h = search rules
+
+unread≢going : Unread ≢ Going
+unread≢going h = search rules
+
+abbrev refusal : Bool → State
+refusal refused = cond refused Refused Going
+
+pub going_is : {state : State} (refused written : Bool) → state ≡ state_of refused written → state ≡ Going → refused ≡ false
+going_is refused written e g = go refused written (sym e ∙ g)
+  where
+    go : (t w : Bool) → state_of t w ≡ Going → t ≡ false
+    go false w h = refl
+    go true true h = absurd (refused≢going h)
+    go true false h = absurd (unread≢going h)
+
+read_is : {state : State} (refused written : Bool) → state ≡ state_of refused written → state ≢ Unread → state ≡ refusal refused
+read_is {state} refused written e h = go written e
+  where
+    go : (w : Bool) → state ≡ state_of refused w → state ≡ refusal refused
+    go true e = e
+    go false e = absurd (h e)
+
+refused_is : {state : State} (refused written : Bool) → state ≡ state_of refused written → state ≢ Going → state ≢ Unread → refused ≡ true
+refused_is {state} refused written e g h = go refused (read_is refused written e h)
+  where
+    go : (t : Bool) → state ≡ refusal t → t ≡ true
+    go true e = refl
+    go false e = absurd (g e)
 
 -- what is left to do gives what all calls give
 pub record Reached (input : List ℕ) (room first at index : ℕ) : Type 0 where
@@ -66,39 +102,30 @@ module _ {input : List ℕ} {room first at index : ℕ} (s : Reached input room 
     is_refused : r.refused ≡ (answers_to input room first).refused
     is_refused = ap (λ (p : Progress). p.refused) e ∙ ap (λ (a : Answered). a.refused) all
 
-  pub refused : (written : Bool) → r.refused ≡ true → Answers input room first (record { at = r.at; index = r.index; refused = true; written = written })
-  refused written f =
-      record {
-        within = within;
-        counted = counted;
-        through = λ _ g. absurd (true≢false g);
-        at = λ _. is_at (last f);
-        index = λ _. is_index (last f);
-        refused = λ _. sym f ∙ is_refused (last f);
-      }
+  module _ (state : State) (written : Bool) (told_state : state ≡ state_of r.refused written) where
+    pub stopped : state ≢ Going → Answers input room first (record { at = r.at; index = r.index; state = state })
+    stopped h =
+        record {
+          within = within;
+          counted = counted;
+          through = λ g. absurd (h g);
+          at = λ read. is_at (last (refused_is _ written told_state h read));
+          index = λ read. is_index (last (refused_is _ written told_state h read));
+          refused = λ read. read_is _ written told_state read ∙ ap refusal (is_refused (last (refused_is _ written told_state h read)));
+        }
 
-  pub unwritten : Answers input room first (record { at = r.at; index = r.index; refused = false; written = false })
-  unwritten =
-      record {
-        within = within;
-        counted = counted;
-        through = λ w _. absurd (true≢false (sym w));
-        at = λ w. absurd (true≢false (sym w));
-        index = λ w. absurd (true≢false (sym w));
-        refused = λ w. absurd (true≢false (sym w));
-      }
-
-  pub through : r.refused ≡ false → r.used + longest ≤ room → Answers input room first (record { at = r.at; index = r.index; refused = false; written = true })
-  through f h =
-      let all = last_through f h in
-      record {
-        within = within;
-        counted = counted;
-        through = λ _ _. let m = (moves input room at index r e).through h f in omega arith;
-        at = λ _. is_at all;
-        index = λ _. is_index all;
-        refused = λ _. sym f ∙ is_refused all;
-      }
+    pub through : state ≡ Going → r.used + longest ≤ room → Answers input room first (record { at = r.at; index = r.index; state = state })
+    through g h =
+        let f = going_is _ written told_state g in
+        let all = last_through f h in
+        record {
+          within = within;
+          counted = counted;
+          through = λ _. let m = (moves input room at index r e).through h f in omega arith;
+          at = λ _. is_at all;
+          index = λ _. is_index all;
+          refused = λ read. read_is _ written told_state read ∙ ap refusal (is_refused all);
+        }
 
   -- there may be more to answer
   module _ (roomy : longest ≤ room) (f : r.refused ≡ false) (h : room < r.used + longest) where

@@ -1,16 +1,22 @@
 -- What `take_reading` and `answer_all` keep from reading to reading. Assumes nothing.
 use Prim.Native.Nat.{ℕ, ◌+◌, ◌-◌, ◌≤◌}
 use mathlib.Core.Path.{◌≡◌, refl, sym, ap, subst, ◌∙◌}
-use mathlib.Core.Bool.{Bool, true, false}
+use mathlib.Core.Logic.{◌≢◌}
 use mathlib.Core.List.{List, [], ◌∷◌, ◌++◌}
 use native.Mathlib.Omega.{arith}
+use Rattle.std.proofs.Common.{rules}
 use lib.ListN.{length, take, drop, length-drop}
 use lib.Seq.{length-take-le, take-add}
 use Rattle.reading.specs.declared.Arrived.{Arrived}
 use Rattle.reading.specs.declared.Reading.{Reading}
+use Rattle.reading.specs.declared.State.{State}
+use Rattle.reading.specs.declared.State.TheVariants.{Going, Unread}
 use Rattle.reading.specs.Loop.{Answers, held_after, total, Keeps}
 
-pub started : (room : ℕ) (buffer : List ℕ) → Keeps room buffer (record { got = 0; bytes = 0; held = 0; index = 0; refused = false; written = true })
+going≢unread : Going ≢ Unread
+going≢unread h = search rules
+
+pub started : (room : ℕ) (buffer : List ℕ) → Keeps room buffer (record { got = 0; bytes = 0; held = 0; index = 0; state = Going })
 unfolding held_after total
 started room buffer = record { readings = []; bytes = refl; held = refl; index = refl; short = omega arith; counted = omega arith }
 
@@ -20,8 +26,8 @@ keeps_in {room} {room'} {buffer} {r} e k = subst (λ (n : ℕ). Keeps n buffer r
 
 module _ {room : ℕ} {buffer : List ℕ} {before : Reading} (k : Keeps room buffer before) (after : List ℕ) (same : take before.held after ≡ take before.held buffer) where
   -- a reading that got nothing
-  pub ended : (got : ℕ) (refused written : Bool) → Keeps room after (record { got = got; bytes = before.bytes; held = before.held; index = before.index; refused = refused; written = written })
-  ended got refused written = record { readings = k.readings; bytes = k.bytes; held = same ∙ k.held; index = k.index; short = k.short; counted = k.counted }
+  pub ended : (got : ℕ) (state : State) → Keeps room after (record { got = got; bytes = before.bytes; held = before.held; index = before.index; state = state })
+  ended got state = record { readings = k.readings; bytes = k.bytes; held = same ∙ k.held; index = k.index; short = k.short; counted = k.counted }
 
   -- a reading, after which the bytes from `at` on are kept
   module _ (got : ℕ) (fits : before.held + got ≤ length after) {arrived : Arrived} (a : Answers (take (before.held + got) after) room before.index arrived)
@@ -35,17 +41,17 @@ module _ {room : ℕ} {buffer : List ℕ} {before : Reading} (k : Keeps room buf
     size : length reading ≡ got
     size = length-take-le got (drop before.held after) (omega (arith, length-drop before.held after))
 
-    pub on : arrived.refused ≡ false → arrived.written ≡ true
-        → Keeps room kept (record { got = got; bytes = before.bytes + got; held = before.held + got - arrived.at; index = arrived.index; refused = arrived.refused; written = arrived.written })
+    pub on : arrived.state ≡ Going → Keeps room kept (record { got = got; bytes = before.bytes + got; held = before.held + got - arrived.at; index = arrived.index; state = arrived.state })
     unfolding held_after total
-    on accepted written =
+    on going =
+        let read : arrived.state ≢ Unread = (λ u. going≢unread (sym going ∙ u)) in
         let n = length-take-le (before.held + got) after fits in
-        let short = a.through written accepted in
+        let short = a.through going in
         record {
           readings = reading ∷ k.readings;
           bytes = omega (arith, k.bytes, size);
-          held = moved ∙ rw (there, ← k.index, ← a.at written);
-          index = a.index written ∙ rw (there, ← k.index);
+          held = moved ∙ rw (there, ← k.index, ← a.at read);
+          index = a.index read ∙ rw (there, ← k.index);
           short = omega arith;
           counted = omega (arith, a.within, a.counted, k.counted);
         }

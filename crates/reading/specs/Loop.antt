@@ -1,17 +1,23 @@
 -- What the reading loop holds from reading to reading, and where it may end. The steps are those of `stream/specs/Readings.antt`, which also says what its lines are.
-use Rattle.std.specs.Prelude.{ℕ, ◌+◌, ◌<◌, ◌≤◌, ◌≡◌, true, false, ◌⊎◌, List, [], ◌∷◌, length, take}
+use Rattle.std.specs.Prelude.{ℕ, ◌+◌, ◌<◌, ◌≤◌, ◌≡◌, ◌≢◌, Bool, cond, ◌⊎◌, List, [], ◌∷◌, length, take}
 use Rattle.stream.specs.Readings.{answers_to, Held, nothing, holds}
 use Rattle.reading.specs.declared.Arrived.{Arrived}
 use Rattle.reading.specs.declared.Reading.{Reading}
+use Rattle.reading.specs.declared.State.{State}
+use Rattle.reading.specs.declared.State.TheVariants.{Going, Refused, Unread}
+
+-- the state after lines that were written or not, the last of which refuses the stream or does not: lines that nobody takes come first
+abbrev pub state_of : Bool → Bool → State
+state_of refused written = cond written (cond refused Refused Going) Unread
 
 -- how far the bytes that are there are answered: where the lines are taken, as far as the definition says
 pub record Answers (bytes : List ℕ) (room first : ℕ) (r : Arrived) : Type 0 where
   pub within : r.at ≤ length bytes
   pub counted : r.index ≤ first + r.at
-  pub through : r.written ≡ true → r.refused ≡ false → length bytes < r.at + 35
-  pub at : r.written ≡ true → r.at ≡ (answers_to bytes room first).at
-  pub index : r.written ≡ true → r.index ≡ (answers_to bytes room first).index
-  pub refused : r.written ≡ true → r.refused ≡ (answers_to bytes room first).refused
+  pub through : r.state ≡ Going → length bytes < r.at + 35
+  pub at : r.state ≢ Unread → r.at ≡ (answers_to bytes room first).at
+  pub index : r.state ≢ Unread → r.index ≡ (answers_to bytes room first).index
+  pub refused : r.state ≢ Unread → r.state ≡ cond (answers_to bytes room first).refused Refused Going
 
 -- what is held after some readings, the last of them first
 unfoldable pub held_after : ℕ → List (List ℕ) → Held
@@ -34,8 +40,8 @@ pub record Keeps (room : ℕ) (buffer : List ℕ) (r : Reading) : Type 0 where
 
 -- nothing has gone wrong yet: the stream is not refused, and its lines are taken
 abbrev pub Goes : Reading → Type 0
-Goes r = (r.refused ≡ false) × (r.written ≡ true)
+Goes r = r.state ≡ Going
 
 -- the loop ends only where a reading got nothing, the stream is refused, nobody takes the lines any more, or 2^63 bytes have come
 abbrev pub Ends : Reading → Type 0
-Ends r = (r.got ≡ 0) ⊎ (r.refused ≡ true) ⊎ (r.written ≡ false) ⊎ (9223372036854775808 ≤ r.bytes)
+Ends r = (r.got ≡ 0) ⊎ (r.state ≡ Refused) ⊎ (r.state ≡ Unread) ⊎ (9223372036854775808 ≤ r.bytes)

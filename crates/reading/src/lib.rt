@@ -1,14 +1,27 @@
 // Reads a stream of records from a reader and writes its lines to a writer, as they arrive: what a
 // client has sent is answered before more is waited for. What the lines are is proved in `stream`;
 // here is only the reading and writing. The two loops follow `stream/specs/Readings.antt`, whose
-// theorem says that all lines together are the stream's.
+// theorem says that all lines together are the stream's. Both buffers are lent, for memory is fixed, and
+// come as slices beside each other: a struct of them would be taken apart at each call, where the one is
+// read and the other written.
 #![tactic(auto)]
 
 ghost use Rattle.std.specs.Prelude.{◌≡◌, true, ◌+◌, ◌-◌, ◌<◌, ◌≤◌, length, take, drop};
 ghost use Rattle.stream.specs.Inside.Calls.{longest};
-ghost use Rattle.reading.specs.Loop.{Answers, Keeps, Goes, Ends};
+ghost use Rattle.reading.specs.Loop.{Answers, Keeps, Goes, Ends, state_of};
 
 use std::io::{Read, Write};
+
+// Whether more of a stream is to be answered.
+#[derive(Clone, Copy, Debug, PartialEq, Eq)]
+pub enum State {
+    // Its lines were taken, and it is not refused.
+    Going,
+    // Its lines were taken, and the last of them refuses it.
+    Refused,
+    // The lines were not taken: nobody reads them any more.
+    Unread,
+}
 
 // How far the bytes that are there were answered.
 #[derive(Clone, Copy)]
@@ -17,10 +30,7 @@ struct Arrived {
     at: usize,
     // Its number.
     index: u64,
-    // The stream was refused.
-    refused: bool,
-    // The lines were taken; else nobody reads them any more.
-    written: bool,
+    state: State,
 }
 
 // How far a stream has come after a reading.
@@ -34,10 +44,20 @@ pub struct Reading {
     pub held: usize,
     // The number of that record.
     pub index: u64,
-    // The stream was refused.
-    pub refused: bool,
-    // The lines were taken; else nobody reads them any more.
-    pub written: bool,
+    pub state: State,
+}
+
+// The state after lines that were written or not, the last of which refuses the stream or does not.
+fn state_of(refused: bool, written: bool) -> State
+    ensures { result ≡ state_of refused written }
+{
+    if !written {
+        return State::Unread;
+    }
+    if refused {
+        return State::Refused;
+    }
+    State::Going
 }
 
 // Writes the lines of all whole records that are there.
@@ -48,35 +68,19 @@ fn answer_arrived<W: Write>(to: &mut W, input: &[u8], first: u64, out: &mut [u8]
 {
     let mut index = first;
     let mut at: usize = 0;
+    // A `loop`: how many calls the bytes take is not known before.
     loop {
         let progress = stream::answer_some(input, at, index, out);
         let used = progress.used;
         let written = to.write_all(&out[..used]).is_ok();
+        let state = state_of(progress.refused, written);
         index = progress.index;
         at = progress.at;
-        if progress.refused {
-            return Arrived {
-                at,
-                index,
-                refused: true,
-                written,
-            };
-        }
-        if !written {
-            return Arrived {
-                at,
-                index,
-                refused: false,
-                written: false,
-            };
+        if state != State::Going {
+            return Arrived { at, index, state };
         }
         if stream::LONGEST <= out.len() - used {
-            return Arrived {
-                at,
-                index,
-                refused: false,
-                written: true,
-            };
+            return Arrived { at, index, state };
         }
     }
 }
@@ -106,11 +110,7 @@ fn keep(buffer: &mut [u8], at: usize, end: usize)
     requires { (at ≤ end) × (end ≤ length buffer.old) }
     ensures { (length buffer.new ≡ length buffer.old) × (take (end - at) buffer.new ≡ drop at (take end buffer.old)) }
 {
-    let mut i: usize = 0;
-    while i < end - at {
-        buffer[i] = buffer[at + i];
-        i = i + 1;
-    }
+    buffer.copy_within(at..end, 0);
 }
 
 // One reading: the whole records that are there now are answered, and the beginning of the next is
@@ -138,8 +138,7 @@ fn take_reading<R: Read, W: Write>(
             bytes: before.bytes,
             held,
             index,
-            refused: 0 < held,
-            written,
+            state: state_of(0 < held, written),
         };
     }
     let end = held + got;
@@ -151,8 +150,7 @@ fn take_reading<R: Read, W: Write>(
         bytes: before.bytes + (got as u64),
         held: end - at,
         index: arrived.index,
-        refused: arrived.refused,
-        written: arrived.written,
+        state: arrived.state,
     }
 }
 
@@ -175,18 +173,15 @@ pub fn answer_all<R: Read, W: Write>(
         bytes: 0,
         held: 0,
         index: 0,
-        refused: false,
-        written: true,
+        state: State::Going,
     };
+    // A `while`: how many readings come is not known before.
     while last.bytes < 9223372036854775808 {
         last = take_reading(from, to, buffer, out, last);
         if last.got == 0 {
             return last;
         }
-        if last.refused {
-            return last;
-        }
-        if !last.written {
+        if last.state != State::Going {
             return last;
         }
     }

@@ -13,19 +13,30 @@ use lib.Ieee.{Float, nan}
 use lib.ListN.{length, replicate, take, drop, set, length-append, length-drop}
 use lib.Seq.{length-take-le, take_all, drop-cons, drop-length, drop-drop, take_at, drop_at, get_or-set_same, get_or-set_other, get_or-take, take-append_seam, get_or-append-add}
 use Rattle.arith.specs.Double.{at, #0}
-use Rattle.arith.proofs.Flags.{neither}
+use Rattle.arith.proofs.Flags.{neither, not_taken}
 use Rattle.segv.specs.Row.{Slices, slices, Numbered, answer}
 use Rattle.angular.specs.Aswfa.{aswfa}
 use Rattle.angular.specs.Inside.Turns.{in_turn}
-use Rattle.requests.specs.declared.answers.Answer.TheVariants.{Pair}
+use Rattle.requests.specs.declared.refusals.Refusal.{Refusal}
+use Rattle.requests.specs.Answers.{Pair, code, number_of}
+use Rattle.std.specs.Prelude.{Result, Ok, Err, is_ok}
+use Rattle.std.specs.Result.{result_and}
 use Rattle.requests.specs.declared.checking.Kind.{Kind}
 use Rattle.requests.specs.Refusals.{out_of_range, mode_refusal, not_finite, sign_of}
-use Rattle.requests.proofs.Laws.{none}
+use Rattle.requests.proofs.Laws.{none, some_number}
 use Rattle.rows.specs.Rows.{row_of, blank_slices}
 use Rattle.rows.proofs.Finite.{finite_row}
-use Rattle.modes.specs.Angular.{outside, angular_of}
-use Rattle.modes.proofs.Laws.{angular_none, pair_given}
+use Rattle.modes.specs.Angular.{outside, angular_of, angular_refusal, angular_pair}
 use Rattle.sheets.specs.Sheet.{mode_with, or_else, first_refusal, argument_refusal, too_large, lists_refusal, pair_of, each, row_for, cv_for, row_refusal_for, pairs, sheet_refusal, sheet_of}
+
+-- ---- the numbers of answers
+pub ok_number : {A : Type 0} (r : Result A Refusal) → is_ok r ≡ true → code r ≡ 0
+ok_number (Ok x) h = refl
+ok_number (Err refusal) h = absurd (not_taken h)
+
+pub and_number : (r s : Result Unit Refusal) → code (result_and r s) ≡ or_else (code r) (code s)
+and_number (Ok u) s = refl
+and_number (Err refusal) s = rw (ne_eqb (number_of refusal) 0 (some_number refusal))
 
 -- ---- the first refusal of a list, from place i on
 module _ (refusal : Float → ℕ) (ys : List Float) (i : ℕ) where
@@ -195,9 +206,8 @@ value_put f cvs cs i v l before e j h = pick (ℕ_discrete j i)
 -- ---- the pairs of accepted lists are those of `aswfa`
 module _ (kind : Kind) (m n : ℕ) (c cv : Float) (u : mode_refusal (mode_with m n c) ≡ 0) (finite : not_finite cv ≡ false) where
   pub answer_is : (x : Float) → argument_refusal x ≡ 0 → let p = aswfa m n c cv (sign_of kind) x in angular_of kind (mode_with m n c) cv x ≡ Pair p.value p.derivative
-  answer_is x h =
-      let o = no_number (outside x) 8 (omega arith) h in
-      sym (pair_given kind (mode_with m n c) cv x 0 (angular_none (mode_with m n c) cv x 0 (sym u) refl finite o) (sign_of kind) (aswfa m n c cv (sign_of kind) x) refl refl refl)
+  unfolding angular_of angular_refusal angular_pair
+  answer_is x h = let o = no_number (outside x) 8 (omega arith) h in rw (u, finite, o)
 
   pub pairs_are : (xs : List Float) → first_refusal argument_refusal xs ≡ 0 → each (λ x. pair_of (angular_of kind (mode_with m n c) cv x)) xs ≡ in_turn (aswfa m n c cv (sign_of kind)) xs
   unfolding each in_turn first_refusal pair_of

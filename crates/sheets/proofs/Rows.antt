@@ -20,6 +20,10 @@ use Rattle.requests.proofs.Laws.{accepted, usable}
 use Rattle.rows.specs.Rows.{row_of, row_in, too_short, blank_slices}
 use Rattle.rows.proofs.Filled.{written_at, blank_room}
 use Rattle.sheets.specs.Sheet.{mode_with, first_refusal, row_for, row_refusal_for, cv_for}
+use Rattle.requests.specs.declared.refusals.Refusal.{Refusal}
+use Rattle.requests.specs.declared.refusals.Refusal.TheVariants.{OutOfSteps}
+use Rattle.requests.specs.Answers.{number_of}
+use Rattle.std.specs.Prelude.{Ok, Err}
 use Rattle.sheets.specs.Inside.Parameters.{Bisected, RowsFrom, Put}
 use Rattle.sheets.proofs.Laws.{first_later, first_stop}
 
@@ -94,16 +98,16 @@ module _ (kind : Kind) (m n allowance : ℕ) (c : Float) (b : Bisected m n c) wh
 
 -- ---- what the rows of one c, or of four, come to
 module _ (kind : Kind) (m n allowance : ℕ) (cs : List Float) (i : ℕ) where
-  pub rows_one : (k : ℕ) (v : Float) → i < length cs → k ≡ row_refusal_for kind m n allowance (at cs i) → v ≡ cv_for kind m n allowance (at cs i)
-      → RowsFrom kind m n allowance cs i (record { number = k; count = 1; values = v ∷ #0 ∷ #0 ∷ #0 ∷ [] })
-  rows_one k v l hk hv =
+  pub rows_one : (v : Float) → i < length cs → row_refusal_for kind m n allowance (at cs i) ≡ 0 → v ≡ cv_for kind m n allowance (at cs i)
+      → RowsFrom kind m n allowance cs i (Ok (record { count = 1; values = v ∷ #0 ∷ #0 ∷ #0 ∷ [] }))
+  rows_one v l hk hv =
       record {
-        some = omega arith;
-        few = omega arith;
-        within = omega arith;
-        given = λ z q a. let e : q ≡ 0 = omega arith in let f : i + 0 ≡ i = omega arith in rw (e, f) (sym hk ∙ z, hv);
-        refused = λ h. first_stop (row_refusal_for kind m n allowance) cs i k l hk h;
+        given = record { some = omega arith; few = omega arith; within = omega arith; given = λ q a. let e : q ≡ 0 = omega arith in let f : i + 0 ≡ i = omega arith in rw (e, f) (hk, hv) };
+        refused = λ h. absurd (h refl);
       }
+
+  pub rows_one_refused : (refusal : Refusal) → i < length cs → number_of refusal ≡ row_refusal_for kind m n allowance (at cs i) → RowsFrom kind m n allowance cs i (Err refusal)
+  rows_one_refused refusal l hk = record { given = tt; refused = λ h. first_stop (row_refusal_for kind m n allowance) cs i (number_of refusal) l hk h }
 
   module _ (l : i + 4 ≤ length cs) (b : (q : ℕ) → q < 4 → Bisected m n (at cs (i + q))) (squares : List Float) (entries : List ℕ)
       (hs : (q : ℕ) → q < 4 → at squares q ≡ cs_of kind (mode_with m n (at cs (i + q)))) (he : (q : ℕ) → q < 4 → get_or entries q 0 ≡ entries_of (mode_with m n (at cs (i + q)))) where
@@ -113,24 +117,23 @@ module _ (kind : Kind) (m n allowance : ℕ) (cs : List Float) (i : ℕ) where
     is : (q : ℕ) → q < 4 → Row q ≡ families kind m n allowance (at cs (i + q))
     is q a = rw (hs q a, he q a)
 
-    pub rows_four_refused : (v : List Float) → (((q : ℕ) → q < 4 → either_stopped (Row q) ≡ false) → ⊥) → RowsFrom kind m n allowance cs i (record { number = 10; count = 4; values = v })
-    rows_four_refused v h =
+    pub rows_four_refused : (((q : ℕ) → q < 4 → either_stopped (Row q) ≡ false) → ⊥) → RowsFrom kind m n allowance cs i (Err OutOfSteps)
+    rows_four_refused h =
         record {
-          some = omega arith;
-          few = omega arith;
-          within = l;
-          given = λ z. absurd (omega arith);
+          given = tt;
           refused = λ _. first_of (row_refusal_for kind m n allowance) cs 4 i (λ q. either_stopped (Row q)) l
               (λ (q : ℕ) (a : q < 4). (λ e. row_stops kind m n allowance (at cs (i + q)) (b q a) (rw (is q a) at e), λ e. (row_given kind m n allowance (at cs (i + q)) (b q a) (rw (is q a) at e)).0)) h;
         }
 
-    pub rows_four : (v : List Float) → ((q : ℕ) → q < 4 → (either_stopped (Row q) ≡ false) × (at v q ≡ (mode_at (Row q) (n - m)).value)) → RowsFrom kind m n allowance cs i (record { number = 0; count = 4; values = v })
+    pub rows_four : (v : List Float) → ((q : ℕ) → q < 4 → (either_stopped (Row q) ≡ false) × (at v q ≡ (mode_at (Row q) (n - m)).value)) → RowsFrom kind m n allowance cs i (Ok (record { count = 4; values = v }))
     rows_four v h =
         record {
-          some = omega arith;
-          few = omega arith;
-          within = l;
-          given = λ z q a. let g = row_given kind m n allowance (at cs (i + q)) (b q a) (rw (is q a) at (h q a).0) in (g.0, (rw (is q a) at (h q a).1) ∙ sym g.1);
+          given = record {
+            some = omega arith;
+            few = omega arith;
+            within = l;
+            given = λ q a. let g = row_given kind m n allowance (at cs (i + q)) (b q a) (rw (is q a) at (h q a).0) in (g.0, (rw (is q a) at (h q a).1) ∙ sym g.1);
+          };
           refused = λ z. absurd (z refl);
         }
 

@@ -2,8 +2,7 @@
 use Rattle.std.specs.Prelude.{ℕ, ◌-◌, ◌*◌, Bool, cond, ◌||◌, List, [], ◌∷◌, ◌++◌, eqb, ltb, Float, length, drop}
 use Rattle.arith.specs.Double.{at, #0}
 use Rattle.segv.specs.Row.{Slices, Numbered, answer}
-use Rattle.requests.specs.declared.answers.Answer.{Answer}
-use Rattle.requests.specs.declared.answers.Answer.TheVariants.{Pair, Quadruple, Refused}
+use Rattle.requests.specs.Answers.{Answer, Pair, Quadruple, Refused}
 use Rattle.requests.specs.declared.checking.Kind.{Kind}
 use Rattle.requests.specs.declared.checking.Mode.{Mode}
 use Rattle.requests.specs.Refusals.{out_of_range, mode_refusal}

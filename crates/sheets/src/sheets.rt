@@ -6,12 +6,16 @@ ghost use Rattle.segv.specs.Row.{answer};
 ghost use Rattle.angular.specs.Aswfa.{aswfa};
 ghost use Rattle.angular.specs.Inside.Turns.{in_turn};
 ghost use Rattle.requests.specs.Refusals.{sign_of};
-ghost use Rattle.requests.specs.Answers.{outcome};
+ghost use Rattle.requests.specs.Answers.{code};
 ghost use Rattle.sheets.specs.Sheet as Sheet;
 
-use requests::{Kind, SliceAnswer};
+use super::checking::lists_refusal;
+use super::parameters::Rows;
+use expansion::terms::Mode;
+use requests::{Kind, Refusal};
 
-// The pairs of each c, with its characteristic value, at each x, into the first places of the block.
+// The pairs of each c, with its characteristic value, at each x, into the first places of the block. It
+// takes no `Rows`, since no row is run any more.
 fn fill(kind: Kind, m: u16, n: u16, cs: &[f64], cvs: &[f64; 32], xs: &[f64], block: &mut [f64])
     requires { Sheet.lists_refusal m n cs.now xs.now (length block.old) ≡ 0 }
     ensures { (cv : Float → Float) → ((i : ℕ) → i < length cs.now → at cvs.now i ≡ cv (at cs.now i))
@@ -19,49 +23,17 @@ fn fill(kind: Kind, m: u16, n: u16, cs: &[f64], cvs: &[f64; 32], xs: &[f64], blo
 {
     let kd = requests::sign(kind);
     let width = 2 * xs.len();
+    // Where the next pairs go. Not by `chunks_exact_mut`, which asks for a width that is not 0.
     let mut from: usize = 0;
-    let mut i: usize = 0;
-    while i < cs.len() {
-        angular::aswfa::aswfa_each(
-            m as u32,
-            n as u32,
-            cs[i],
-            cvs[i],
-            kd,
-            xs,
-            &mut block[from..],
-        );
+    for i in 0..cs.len() {
+        let mode = Mode {
+            m: m as u32,
+            n: n as u32,
+            c: cs[i],
+        };
+        angular::aswfa::aswfa_each(mode, cvs[i], kd, xs, &mut block[from..]);
         from = from + width;
-        i = i + 1;
     }
-}
-
-// The refusal's number, or 0 with the block filled.
-fn sheet_number(
-    kind: Kind,
-    m: u16,
-    n: u16,
-    allowance: u32,
-    cs: &[f64],
-    xs: &[f64],
-    block: &mut [f64],
-) -> u8
-    ensures { answer result block.new ≡ Sheet.sheet_of kind m n allowance cs.now xs.now block.old }
-{
-    let refused = super::checking::lists_refusal(m, n, cs, xs, block.len());
-    if refused != 0 {
-        return refused;
-    }
-    if xs.len() == 0 {
-        return 0;
-    }
-    let mut cvs = super::parameters::zero_values();
-    let refused_row = super::parameters::characteristic_values(kind, m, n, allowance, cs, &mut cvs);
-    if refused_row != 0 {
-        return refused_row;
-    }
-    fill(kind, m, n, cs, &cvs, xs, block);
-    0
 }
 
 // The angular pair of a mode for each c at each x: value and derivative, x by x for the first c, then
@@ -75,8 +47,23 @@ pub fn sheet(
     cs: &[f64],
     xs: &[f64],
     block: &mut [f64],
-) -> SliceAnswer
-    ensures { record { answer = result; after = block.new } ≡ outcome (Sheet.sheet_of kind m n allowance cs.now xs.now block.old) }
+) -> Result<(), Refusal>
+    ensures { answer (code result) block.new ≡ Sheet.sheet_of kind m n allowance cs.now xs.now block.old }
 {
-    requests::slice_answer(sheet_number(kind, m, n, allowance, cs, xs, block))
+    lists_refusal(m, n, cs, xs, block.len())?;
+    // Not `is_empty()`: an edit of must-fail/ has another number here.
+    if xs.len() == 0 {
+        return Ok(());
+    }
+    let rows = Rows {
+        kind,
+        m,
+        n,
+        allowance,
+    };
+    let mut cvs: [f64; 32] = arith::filled(0.0);
+    let found = rows.characteristic_values(cs, &mut cvs);
+    found?;
+    fill(kind, m, n, cs, &cvs, xs, block);
+    Ok(())
 }

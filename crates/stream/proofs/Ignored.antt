@@ -11,11 +11,11 @@ use Rattle.arith.specs.Double.{at, #0}
 use Rattle.records.specs.declared.record.Record.{Record}
 use Rattle.records.specs.Lines.{number, double, newline, bracket, pair, v_line, z_line, d_line, r_line}
 use Rattle.segv.specs.Row.{Slices}
-use Rattle.requests.specs.declared.answers.Answer.{Answer}
-use Rattle.requests.specs.declared.answers.Answer.TheVariants as Answers
-use Rattle.requests.specs.declared.answers.Answer.TheVariants.{Pair, Quadruple}
+use Rattle.std.specs.Prelude.{Result, Ok, Err}
+use Rattle.requests.specs.Answers.{Answer, Pair, Quadruple, Refused, number_of}
+use Rattle.requests.specs.declared.refusals.Refusal.{Refusal}
 use Rattle.requests.specs.declared.operations.Operation.{Operation}
-use Rattle.requests.specs.declared.operations.Operation.TheVariants.{Row, Angular, Radial, DlmfRow, FirstKind, Refused}
+use Rattle.requests.specs.declared.operations.Operation.TheVariants.{Row, Angular, Radial, DlmfRow, FirstKind}
 use Rattle.requests.specs.Operations.{operation_of}
 use Rattle.rows.specs.Rows.{row_of, dlmf_of, blank_slices}
 use Rattle.modes.specs.Angular.{angular_of}
@@ -61,7 +61,7 @@ dlmf_numberless m row j = d_numberless m row j ∷ []
 unfoldable answer_numberless : ℕ → ℕ → ℕ → Answer → Line
 answer_numberless letter m n (Pair value derivative) = pair_numberless letter m n value derivative
 answer_numberless letter m n (Quadruple value1 derivative1 value2 derivative2) = f_numberless m n value1 derivative1 value2 derivative2
-answer_numberless letter m n (Answers.Refused k) = r_numberless k
+answer_numberless letter m n (Refused k) = r_numberless k
 
 unfoldable numberless : Operation → Record → List Line
 numberless (Row kind) r =
@@ -73,7 +73,10 @@ numberless (DlmfRow kind) r =
 numberless (Angular kind) r = answer_numberless (code "A") r.m r.n (angular_of kind (mode_of r) r.cv r.x) ∷ []
 numberless Radial r = answer_numberless (code "F") r.m r.n (radial_of (mode_of r) r.cv r.x) ∷ []
 numberless FirstKind r = answer_numberless (code "G") r.m r.n (first_of (mode_of r) r.cv r.x) ∷ []
-numberless (Refused k) r = r_numberless k ∷ []
+
+unfoldable numberless_asked : Result Operation Refusal → Record → List Line
+numberless_asked (Ok op) r = numberless op r
+numberless_asked (Err refusal) r = r_numberless (number_of refusal) ∷ []
 
 -- ---- with the number put in they are its lines
 
@@ -105,7 +108,7 @@ answer_put l i m n (Pair value derivative) =
 answer_put l i m n (Quadruple value1 derivative1 value2 derivative2) =
     ap (λ (t : List ℕ). t ++ pair value2 derivative2 ++ newline) (assoc_3 (code "F" ∷ number i) (number m) (number n) (pair value1 derivative1))
     ∙ assoc_3 (code "F" ∷ number i) (number m ++ number n ++ pair value1 derivative1) (pair value2 derivative2) newline
-answer_put l i m n (Answers.Refused k) = r_put i k
+answer_put l i m n (Refused k) = r_put i k
 
 -- a text of one line, and a text with one line more
 one : (i : ℕ) (text : List ℕ) (l : Line) → text ≡ put i l → text ≡ numbered i (l ∷ [])
@@ -151,24 +154,30 @@ text_numbered i (DlmfRow kind) r = let a = dlmf_of kind (mode_of r) r.allowance 
 text_numbered i (Angular kind) r = answer_numbered (code "A") i r.m r.n (angular_of kind (mode_of r) r.cv r.x)
 text_numbered i Radial r = answer_numbered (code "F") i r.m r.n (radial_of (mode_of r) r.cv r.x)
 text_numbered i FirstKind r = answer_numbered (code "G") i r.m r.n (first_of (mode_of r) r.cv r.x)
-text_numbered i (Refused k) r = one i (r_line i k) (r_numberless k) (r_put i k)
+
+response_numbered : (i : ℕ) (r : Record) → response_to i r ≡ numbered i (numberless_asked (operation_of r.operation) r)
+unfolding response_to numberless_asked
+response_numbered i r = go (operation_of r.operation)
+  where
+    go : (asked : Result Operation Refusal) → elim asked [ Ok op ↦ text_of op i r | Err refusal ↦ r_line i (number_of refusal) ] ≡ numbered i (numberless_asked asked r)
+    go (Ok op) = text_numbered i op r
+    go (Err refusal) = one i (r_line i (number_of refusal)) (r_numberless (number_of refusal)) (r_put i (number_of refusal))
 
 -- ---- and they do not depend on what is ignored
 
-same : (r s : Record) → r.m ≡ s.m → r.n ≡ s.n → r.c ≡ s.c → (op : Operation) → AgreeFor op r s → numberless op r ≡ numberless op s
-unfolding AgreeFor numberless
-same r s m n c (Row kind) a = rw (m, n, c, a)
-same r s m n c (DlmfRow kind) a = rw (m, n, c, a)
-same r s m n c (Angular kind) a = rw (m, n, c, a.0, a.1)
-same r s m n c Radial a = rw (m, n, c, a.0, a.1)
-same r s m n c FirstKind a = rw (m, n, c, a.0, a.1)
-same r s m n c (Refused k) a = refl
+same : (r s : Record) → r.m ≡ s.m → r.n ≡ s.n → r.c ≡ s.c → (asked : Result Operation Refusal) → AgreeFor asked r s → numberless_asked asked r ≡ numberless_asked asked s
+unfolding AgreeFor numberless numberless_asked
+same r s m n c (Ok (Row kind)) a = rw (m, n, c, a)
+same r s m n c (Ok (DlmfRow kind)) a = rw (m, n, c, a)
+same r s m n c (Ok (Angular kind)) a = rw (m, n, c, a.0, a.1)
+same r s m n c (Ok Radial) a = rw (m, n, c, a.0, a.1)
+same r s m n c (Ok FirstKind) a = rw (m, n, c, a.0, a.1)
+same r s m n c (Err refusal) a = refl
 
 pub ignored_fields : IgnoredFields
-unfolding response_to
 ignored_fields r s a =
-    let op = operation_of r.operation in (
-      numberless op r,
-      (λ (i : ℕ). text_numbered i op r),
-      (λ (j : ℕ). ap (λ (k : ℕ). text_of (operation_of k) j s) (sym a.operation) ∙ text_numbered j op s ∙ ap (numbered j) (sym (same r s a.m a.n a.c op a.agree))),
+    let asked = operation_of r.operation in (
+      numberless_asked asked r,
+      (λ (i : ℕ). response_numbered i r),
+      (λ (j : ℕ). response_numbered j s ∙ ap (λ (k : ℕ). numbered j (numberless_asked (operation_of k) s)) (sym a.operation) ∙ ap (numbered j) (sym (same r s a.m a.n a.c asked a.agree))),
     )

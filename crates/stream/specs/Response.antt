@@ -1,17 +1,15 @@
 -- The lines of a record, in document 01's words: a row prints one line for each mode from m to n, a row of operation 1 or 2 another after it, and a refusal prints its number. Definitions only.
-use Rattle.std.specs.Prelude.{ℕ, zero, suc, ◌+◌, ◌-◌, cond, List, [], ◌++◌, eqb, Float, get_or, replicate}
+use Rattle.std.specs.Prelude.{ℕ, zero, suc, ◌+◌, ◌-◌, cond, List, [], ◌++◌, eqb, Float, get_or, replicate, Ok, Err}
 use Prim.Native.Char.{code}
 use Rattle.arith.specs.Double.{at, #0}
 use Rattle.records.specs.declared.record.Record.{Record}
 use Rattle.records.specs.Lines.{v_line, z_line, d_line, pair_line, f_line, r_line}
 use Rattle.segv.specs.Row.{Slices}
-use Rattle.requests.specs.declared.answers.Answer.{Answer}
-use Rattle.requests.specs.declared.answers.Answer.TheVariants as Answers
-use Rattle.requests.specs.declared.answers.Answer.TheVariants.{Pair, Quadruple}
+use Rattle.requests.specs.Answers.{Answer, Pair, Quadruple, Refused, number_of}
 use Rattle.requests.specs.declared.checking.Kind.{Kind}
 use Rattle.requests.specs.declared.checking.Mode.{Mode}
 use Rattle.requests.specs.declared.operations.Operation.{Operation}
-use Rattle.requests.specs.declared.operations.Operation.TheVariants.{Row, Angular, Radial, DlmfRow, FirstKind, Refused}
+use Rattle.requests.specs.declared.operations.Operation.TheVariants.{Row, Angular, Radial, DlmfRow, FirstKind}
 use Rattle.requests.specs.Operations.{operation_of}
 use Rattle.rows.specs.Rows.{row_of, dlmf_of, blank_slices}
 use Rattle.modes.specs.Angular.{angular_of}
@@ -45,7 +43,7 @@ dlmf_text index kind x allowance =
 unfoldable pub answer_text : ℕ → ℕ → ℕ → ℕ → Answer → List ℕ
 answer_text letter index m n (Pair value derivative) = pair_line letter index m n value derivative
 answer_text letter index m n (Quadruple value1 derivative1 value2 derivative2) = f_line index m n value1 derivative1 value2 derivative2
-answer_text letter index m n (Answers.Refused k) = r_line index k
+answer_text letter index m n (Refused k) = r_line index k
 
 -- the mode that a record asks for
 abbrev pub mode_of : Record → Mode
@@ -55,11 +53,10 @@ mode_of r = record { m = r.m; n = r.n; c = r.c }
 unfoldable pub text_of : Operation → ℕ → Record → List ℕ
 text_of (Row kind) index r = row_text index kind (mode_of r) r.allowance
 text_of (DlmfRow kind) index r = dlmf_text index kind (mode_of r) r.allowance
-text_of (Refused k) index r = r_line index k
 text_of (Angular kind) index r = answer_text (code "A") index r.m r.n (angular_of kind (mode_of r) r.cv r.x)
 text_of Radial index r = answer_text (code "F") index r.m r.n (radial_of (mode_of r) r.cv r.x)
 text_of FirstKind index r = answer_text (code "G") index r.m r.n (first_of (mode_of r) r.cv r.x)
 
 -- the lines of the record with this number
 unfoldable pub response_to : ℕ → Record → List ℕ
-response_to index r = text_of (operation_of r.operation) index r
+response_to index r = elim (operation_of r.operation) [ Ok operation ↦ text_of operation index r | Err refusal ↦ r_line index (number_of refusal) ]

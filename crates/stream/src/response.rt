@@ -1,42 +1,50 @@
-// The lines of one record.
-ghost use Rattle.std.specs.Prelude.{◌≡◌, ◌+◌, ◌*◌, ◌<◌, ◌≤◌, length};
+// The lines of one record. They go into a buffer that is lent, for memory is fixed, and each function is
+// proved to stay inside it: so the buffer, the place in it and the record's number come beside each other,
+// with the room that is asked. A struct with the buffer in it would be taken apart for each line.
+ghost use Rattle.std.specs.Prelude.{◌≡◌, ℕ, ◌+◌, ◌*◌, ◌<◌, ◌≤◌, length};
 ghost use Rattle.records.specs.Text.{Put};
 ghost use Rattle.segv.specs.Row.{slices};
+ghost use Rattle.requests.specs.Answers.{pair_answer};
+ghost use Rattle.modes.specs.Radial.{quadruple_answer};
 ghost use Rattle.stream.specs.Response.{row_lines, d_lines, row_text, dlmf_text, answer_text, response_to};
 ghost use Rattle.stream.specs.Inside.Calls.{longest};
 
-use modes::{Answer, Kind, Mode, Operation, SliceAnswer};
+use modes::{Kind, Mode, Operation, Pair, Radial, Refusal};
 use records::Record;
 
 // No record's lines have more bytes: a row has at most 200 lines of 91, and as many of 33.
 pub const LONGEST: usize = 24800;
 
+// Room for the longest row. Five arrays, not one of brackets: `modes::row` fills five slices.
+#[derive(Drop)]
+struct Row {
+    values: [f64; 200],
+    steps: [u32; 200],
+    lowers: [f64; 200],
+    uppers: [f64; 200],
+    substituted: [u8; 200],
+}
+
 // The `V` and `Z` lines of a row's first `count` modes.
-fn put_row_lines(
-    values: &[f64; 200],
-    steps: &[u32; 200],
-    lowers: &[f64; 200],
-    uppers: &[f64; 200],
-    substituted: &[u8; 200],
-    index: u64,
-    m: u16,
-    count: usize,
-    out: &mut [u8],
-    at: usize,
-) -> usize
+fn put_row_lines(row: &Row, index: u64, m: u16, count: usize, out: &mut [u8], at: usize) -> usize
     requires { (count ≤ 200) × (m < 1000) × (at + 124 * count ≤ length out.old) }
-    ensures put { Put out.old out.new at result (row_lines index m (slices values.now steps.now lowers.now uppers.now substituted.now) count) }
+    ensures put { Put out.old out.new at result (row_lines index m (slices row.now.values row.now.steps row.now.lowers row.now.uppers row.now.substituted) count) }
     ensures upper_bound { result ≤ at + 124 * count }
 {
     let mut used = at;
-    let mut j: usize = 0;
-    while j < count {
+    for j in 0..count {
         let mode = m + (j as u16);
         let after = records::v_line(
-            out, used, index, mode, steps[j], values[j], lowers[j], uppers[j],
+            out,
+            used,
+            index,
+            mode,
+            row.steps[j],
+            row.values[j],
+            row.lowers[j],
+            row.uppers[j],
         );
-        used = records::z_line(out, after, index, mode, substituted[j]);
-        j = j + 1;
+        used = records::z_line(out, after, index, mode, row.substituted[j]);
     }
     used
 }
@@ -55,10 +63,8 @@ fn put_d_lines(
     ensures upper_bound { result ≤ at + 46 * count }
 {
     let mut used = at;
-    let mut j: usize = 0;
-    while j < count {
+    for j in 0..count {
         used = records::d_line(out, used, index, m + (j as u16), values[j]);
-        j = j + 1;
     }
     used
 }
@@ -75,35 +81,26 @@ fn respond_row(
     ensures put { Put out.old out.new at result (row_text index kind mode allowance) }
     ensures upper_bound { result ≤ at + longest }
 {
-    let mut values = expansion::sums::blank();
-    let mut steps = modes::zero_steps();
-    let mut lowers = expansion::sums::blank();
-    let mut uppers = expansion::sums::blank();
-    let mut substituted = modes::zero_flags();
+    let mut row = Row {
+        values: arith::filled(0.0),
+        steps: arith::filled(0),
+        lowers: arith::filled(0.0),
+        uppers: arith::filled(0.0),
+        substituted: arith::filled(0),
+    };
     let answer = modes::row(
         kind,
         mode,
         allowance,
-        &mut values,
-        &mut steps,
-        &mut lowers,
-        &mut uppers,
-        &mut substituted,
+        &mut row.values,
+        &mut row.steps,
+        &mut row.lowers,
+        &mut row.uppers,
+        &mut row.substituted,
     );
     match answer {
-        SliceAnswer::Filled => put_row_lines(
-            &values,
-            &steps,
-            &lowers,
-            &uppers,
-            &substituted,
-            index,
-            mode.m,
-            (mode.n - mode.m) as usize + 1,
-            out,
-            at,
-        ),
-        SliceAnswer::Refused(refusal) => records::r_line(out, at, index, refusal),
+        Ok(()) => put_row_lines(&row, index, mode.m, (mode.n - mode.m) as usize + 1, out, at),
+        Err(refusal) => records::r_line(out, at, index, refusal.number()),
     }
 }
 
@@ -119,10 +116,10 @@ fn respond_dlmf_row(
     ensures put { Put out.old out.new at result (dlmf_text index kind mode allowance) }
     ensures upper_bound { result ≤ at + longest }
 {
-    let mut values = expansion::sums::blank();
+    let mut values: [f64; 200] = arith::filled(0.0);
     let answer = modes::dlmf_row(kind, mode, allowance, &mut values);
     match answer {
-        SliceAnswer::Filled => put_d_lines(
+        Ok(()) => put_d_lines(
             &values,
             index,
             mode.m,
@@ -130,13 +127,15 @@ fn respond_dlmf_row(
             out,
             at,
         ),
-        SliceAnswer::Refused(refusal) => records::r_line(out, at, index, refusal),
+        Err(refusal) => records::r_line(out, at, index, refusal.number()),
     }
 }
 
-// The line of what a mode is answered. A pair's has the operation's letter.
-fn put_answer(
-    answer: Answer,
+// The line of a mode's pair, with the operation's letter, or of its refusal. A pair's line has two
+// numbers and a letter of its own, that of both radial kinds four: so there are two functions.
+#[tactic(auto, unfolding(crate::specs::Response::answer_text))]
+fn put_pair(
+    answer: Result<Pair, Refusal>,
     letter: u8,
     index: u64,
     m: u16,
@@ -145,25 +144,42 @@ fn put_answer(
     at: usize,
 ) -> usize
     requires { at + 103 ≤ length out.old }
-    ensures put { Put out.old out.new at result (answer_text letter index m n answer) }
+    ensures put { Put out.old out.new at result (answer_text letter index m n (pair_answer answer)) }
     ensures upper_bound { result ≤ at + 103 }
 {
     match answer {
-        Answer::Pair(value, derivative) => {
-            records::pair_line(out, at, letter, index, m, n, value, derivative)
-        }
-        Answer::Quadruple(value1, derivative1, value2, derivative2) => records::f_line(
+        Ok(pair) => records::pair_line(out, at, letter, index, m, n, pair.value, pair.derivative),
+        Err(refusal) => records::r_line(out, at, index, refusal.number()),
+    }
+}
+
+// The line of both radial kinds, or of their refusal.
+#[tactic(auto, unfolding(crate::specs::Response::answer_text))]
+fn put_radial(
+    answer: Result<Radial, Refusal>,
+    index: u64,
+    m: u16,
+    n: u16,
+    out: &mut [u8],
+    at: usize,
+) -> usize
+    requires { at + 103 ≤ length out.old }
+    ensures put { (letter : ℕ) → Put out.old out.new at result (answer_text letter index m n (quadruple_answer answer)) }
+    ensures upper_bound { result ≤ at + 103 }
+{
+    match answer {
+        Ok(kinds) => records::f_line(
             out,
             at,
             index,
             m,
             n,
-            value1,
-            derivative1,
-            value2,
-            derivative2,
+            kinds.first.value,
+            kinds.first.derivative,
+            kinds.second.value,
+            kinds.second.derivative,
         ),
-        Answer::Refused(refusal) => records::r_line(out, at, index, refusal),
+        Err(refusal) => records::r_line(out, at, index, refusal.number()),
     }
 }
 
@@ -178,22 +194,24 @@ pub(crate) fn respond(request: Record, index: u64, out: &mut [u8], at: usize) ->
         n: request.n,
         c: request.c,
     };
-    let operation = modes::operation_of(request.operation);
+    let operation = match Operation::try_from(request.operation) {
+        Ok(operation) => operation,
+        Err(refusal) => return records::r_line(out, at, index, refusal.number()),
+    };
     match operation {
         Operation::Row(kind) => respond_row(kind, mode, request.allowance, index, out, at),
         Operation::DlmfRow(kind) => respond_dlmf_row(kind, mode, request.allowance, index, out, at),
-        Operation::Refused(refusal) => records::r_line(out, at, index, refusal),
         Operation::Angular(kind) => {
             let answer = modes::angular(kind, mode, request.cv, request.x);
-            put_answer(answer, b'A', index, request.m, request.n, out, at)
+            put_pair(answer, b'A', index, request.m, request.n, out, at)
         }
         Operation::Radial => {
             let answer = modes::radial(mode, request.cv, request.x);
-            put_answer(answer, b'F', index, request.m, request.n, out, at)
+            put_radial(answer, index, request.m, request.n, out, at)
         }
         Operation::FirstKind => {
             let answer = modes::first_kind(mode, request.cv, request.x);
-            put_answer(answer, b'G', index, request.m, request.n, out, at)
+            put_pair(answer, b'G', index, request.m, request.n, out, at)
         }
     }
 }

@@ -4,9 +4,11 @@ ghost use Rattle.records.specs.Text.{Put};
 ghost use Rattle.stream.specs.Inside.Calls.{answered, progress, end_lines};
 
 use super::response;
+use modes::Refusal;
 use records::Next;
 
-// How far a stream was answered.
+// How far a stream was answered. `refused` is a flag beside the others, not a `Result` of them: where a
+// stream is refused they tell as much.
 #[derive(Clone, Copy)]
 pub struct Progress {
     // Where the next record starts.
@@ -35,6 +37,7 @@ pub fn answer_some(input: &[u8], from: usize, first: u64, out: &mut [u8]) -> Pro
     let mut at = from;
     let mut index = first;
     let mut used: usize = 0;
+    // A `while`: the bytes of the input tell how many records they are.
     while response::LONGEST <= out.len() - used {
         let next = records::next_record(input, at);
         match next {
@@ -44,7 +47,7 @@ pub fn answer_some(input: &[u8], from: usize, first: u64, out: &mut [u8]) -> Pro
                 at = at + size;
             }
             Next::Unmarked => {
-                let end = records::r_line(out, used, index, 2);
+                let end = records::r_line(out, used, index, Refusal::WrongMark.number());
                 return Progress {
                     at,
                     index,
@@ -71,8 +74,9 @@ pub fn answer_some(input: &[u8], from: usize, first: u64, out: &mut [u8]) -> Pro
 }
 
 // What is said of the bytes from `at` on that no call has answered, where the input has ended: a
-// record that is cut short is refused. The contract rules out a stream that ends without a word inside
-// a record, and a record that is cut short refused as one with a wrong mark.
+// record that is cut short is refused. Answers how many bytes of the buffer are lines. The contract rules
+// out a stream that ends without a word inside a record, and a record that is cut short refused as one
+// with a wrong mark.
 pub fn answer_end(input: &[u8], at: usize, index: u64, out: &mut [u8]) -> usize
     requires { 27 ≤ length out.old }
     ensures { Put out.old out.new 0 result (end_lines input.now at index) }
@@ -80,5 +84,5 @@ pub fn answer_end(input: &[u8], at: usize, index: u64, out: &mut [u8]) -> usize
     if input.len() <= at {
         return 0;
     }
-    records::r_line(out, 0, index, 1)
+    records::r_line(out, 0, index, Refusal::CutShort.number())
 }

@@ -4,4 +4,4 @@ use Rattle.reading.proofs.Readings as readings
 use Rattle.reading.proofs.answer_all.Goals as goal
 
 pub loop-last-init : goal.loop-last-init
-loop-last-init g c = (refl, refl, (refl, refl), readings.started _ _)
+loop-last-init g c = (refl, refl, refl, readings.started _ _)

@@ -5,8 +5,8 @@ use lib.ListN.{length}
 use Rattle.reading.proofs.Calls as calls
 use Rattle.reading.proofs.answer_arrived.Given as goal
 
-abbrev pub invariant-loop-first : goal.invariant-loop-first
-invariant-loop-first g l = (length l.out ≡ length l.initial.out) × calls.Reached l.input (length l.initial.out) l.first l.at l.index
+abbrev pub invariant-loop-state : goal.invariant-loop-state
+invariant-loop-state g l = (length l.out ≡ length l.initial.out) × calls.Reached l.input (length l.initial.out) l.first l.at l.index
 
-abbrev pub decreases-loop-first : goal.decreases-loop-first
-decreases-loop-first g l = length l.input - l.at
+abbrev pub decreases-loop-state : goal.decreases-loop-state
+decreases-loop-state g l = length l.input - l.at

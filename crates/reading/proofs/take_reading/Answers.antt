@@ -16,7 +16,7 @@ pub returns-then-got-eq0 : goal.returns-then-got-eq0
 returns-then-got-eq0 g c =
     let k = c.requires.keeps in
     let read = c.read_behind-got.ensures in
-    record { buffer_len_unchanged = (read.buffer_len_unchanged.0, c.answer_end-written.ensures); bytes_value = omega (arith, c.if-got-eq0.true); keeps_2 = λ g. readings.ended k _ read.buffer_len_unchanged.1 _ _ _ }
+    record { buffer_len_unchanged = (read.buffer_len_unchanged.0, c.answer_end-written.ensures); bytes_value = omega (arith, c.if-got-eq0.true); keeps_2 = λ g. readings.ended k _ read.buffer_len_unchanged.1 _ _ }
 
 pub slice_bounds-answer_arrived-end-2 : goal.slice_bounds-answer_arrived-end-2
 slice_bounds-answer_arrived-end-2 g c = sym (length-take-le _ _ (omega (arith, c.read_behind-got.ensures.result_in_bounds, c.read_behind-got.ensures.buffer_len_unchanged.0)))
@@ -44,4 +44,4 @@ returns g c =
     let read = c.read_behind-got in
     let arrived = c.answer_arrived-arrived in
     let keep = c.keep in
-    record { buffer_len_unchanged = (keep.ensures.0 ∙ read.ensures.buffer_len_unchanged.0, arrived.ensures.out_len_unchanged); bytes_value = refl; keeps_2 = λ g. readings.on c.requires.keeps read.new.buffer read.ensures.buffer_len_unchanged.1 read.result (omega (arith, read.ensures.result_in_bounds, read.ensures.buffer_len_unchanged.0)) arrived.ensures.answers keep.new.buffer keep.ensures.1 g.0 g.1 }
+    record { buffer_len_unchanged = (keep.ensures.0 ∙ read.ensures.buffer_len_unchanged.0, arrived.ensures.out_len_unchanged); bytes_value = refl; keeps_2 = λ g. readings.on c.requires.keeps read.new.buffer read.ensures.buffer_len_unchanged.1 read.result (omega (arith, read.ensures.result_in_bounds, read.ensures.buffer_len_unchanged.0)) arrived.ensures.answers keep.new.buffer keep.ensures.1 g }

@@ -1,4 +1,4 @@
--- `sheets::checking::parameters_refusal` meets its contract. The invariant: no parameter before the i-th is refused. Assumes nothing.
+-- `sheets::checking::parameters_refusal` meets its contract. The invariant: no parameter before the next is refused. Assumes nothing.
 use Prim.Native.Nat.{ℕ, ◌-◌, ◌≤◌}
 use mathlib.Core.Path.{◌≡◌}
 use lib.Ieee.{Float}
@@ -10,8 +10,5 @@ use Rattle.sheets.proofs.checking.parameters_refusal.Given as goal
 abbrev pub refusal : ℕ → ℕ → Float → ℕ
 refusal m n c = mode_refusal (mode_with m n c)
 
-abbrev pub invariant-loop-i : goal.invariant-loop-i
-invariant-loop-i l = (l.i ≤ length l.cs) × (first_refusal (refusal l.m l.n) l.cs ≡ first_refusal (refusal l.m l.n) (drop l.i l.cs))
-
-abbrev pub decreases-loop-i : goal.decreases-loop-i
-decreases-loop-i l = length l.cs - l.i
+abbrev pub invariant-loop-c : goal.invariant-loop-c
+invariant-loop-c l = (first_refusal (refusal l.m l.n) l.cs ≡ first_refusal (refusal l.m l.n) (drop l.c-index l.cs))

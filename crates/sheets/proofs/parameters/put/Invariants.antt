@@ -6,7 +6,4 @@ use Rattle.lanes.proofs.Laws.{Stored}
 use Rattle.sheets.proofs.parameters.put.Given as goal
 
 abbrev pub invariant-loop-q : goal.invariant-loop-q
-invariant-loop-q l = (l.q ≤ l.count) × Stored nan (λ k. l.i + k) (at l.values) l.initial.cvs l.cvs l.q
-
-abbrev pub decreases-loop-q : goal.decreases-loop-q
-decreases-loop-q l = l.count - l.q
+invariant-loop-q l = Stored nan (λ k. l.i + k) (at l.values) l.initial.cvs l.cvs l.q

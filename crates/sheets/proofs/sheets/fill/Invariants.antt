@@ -16,8 +16,5 @@ row_of_pairs m n kd xs cv c = in_turn (aswfa m n c (cv c) kd) xs
 
 abbrev pub invariant-loop-i : goal.invariant-loop-i
 invariant-loop-i l =
-    (l.i ≤ length l.cs) × (l.from ≡ l.i * l.width) × (length l.block ≡ length l.initial.block)
+    (l.from ≡ l.i * l.width) × (length l.block ≡ length l.initial.block)
     × ((cv : Float → Float) → ((j : ℕ) → j < length l.cs → at l.cvs j ≡ cv (at l.cs j)) → l.block ≡ each (row_of_pairs l.m l.n l.kd l.xs cv) (take l.i l.cs) ++ drop l.from l.initial.block)
-
-abbrev pub decreases-loop-i : goal.decreases-loop-i
-decreases-loop-i l = length l.cs - l.i

@@ -8,18 +8,18 @@ use Rattle.stream.proofs.response.put_d_lines.Goals as goal
 
 pub loop-j-init : goal.loop-j-init
 unfolding d_lines
-loop-j-init c = (omega arith, refl, omega arith, put_nothing _ _ (omega arith))
+loop-j-init c = (refl, omega arith, put_nothing _ _ (omega arith))
 
 pub loop-j-preserved : goal.loop-j-preserved
 unfolding d_lines
 loop-j-preserved c =
     let l = c.loop-j in
     let p = c.d_line-used.ensures in
-    let q = put_then l.invariant.3 p.put in
-    (omega arith, put_length q, omega (arith, p.upper_bound), rw (add-one l.j) q)
+    let q = put_then l.invariant.2 p.put in
+    (put_length q, omega (arith, p.upper_bound), rw (add-one l.j) q)
 
 pub returns : goal.returns
 returns c =
     let l = c.loop-j in
     let h : l.j ≡ c.args.count = omega arith in
-    record { put = rw (← h) l.invariant.3; upper_bound = omega arith }
+    record { put = rw (← h) l.invariant.2; upper_bound = omega arith }

@@ -8,7 +8,4 @@ use Rattle.stream.proofs.response.put_d_lines.Given as goal
 
 abbrev pub invariant-loop-j : goal.invariant-loop-j
 invariant-loop-j l =
-    (l.j ≤ l.count) × (length l.out ≡ length l.initial.out) × (l.used ≤ l.at + 46 * l.j) × Put l.initial.out l.out l.at l.used (d_lines l.index l.m l.values l.j)
-
-abbrev pub decreases-loop-j : goal.decreases-loop-j
-decreases-loop-j l = l.count - l.j
+    (length l.out ≡ length l.initial.out) × (l.used ≤ l.at + 46 * l.j) × Put l.initial.out l.out l.at l.used (d_lines l.index l.m l.values l.j)

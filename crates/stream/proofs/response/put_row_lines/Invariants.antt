@@ -9,7 +9,4 @@ use Rattle.stream.proofs.response.put_row_lines.Given as goal
 
 abbrev pub invariant-loop-j : goal.invariant-loop-j
 invariant-loop-j l =
-    (l.j ≤ l.count) × (length l.out ≡ length l.initial.out) × (l.used ≤ l.at + 124 * l.j) × Put l.initial.out l.out l.at l.used (row_lines l.index l.m (slices l.values l.steps l.lowers l.uppers l.substituted) l.j)
-
-abbrev pub decreases-loop-j : goal.decreases-loop-j
-decreases-loop-j l = l.count - l.j
+    (length l.out ≡ length l.initial.out) × (l.used ≤ l.at + 124 * l.j) × Put l.initial.out l.out l.at l.used (row_lines l.index l.m (slices l.row.values l.row.steps l.row.lowers l.row.uppers l.row.substituted) l.j)

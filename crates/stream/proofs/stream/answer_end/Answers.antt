@@ -8,4 +8,4 @@ pub returns-then-input-at : goal.returns-then-input-at
 returns-then-input-at c = rw (le-leb _ _ c.if-input-at.true) (put_nothing _ 0 (omega arith))
 
 pub returns : goal.returns
-returns c = rw (lt-leb _ _ c.if-input-at.false) c.r_line.ensures.put
+returns c = rw (lt-leb _ _ c.if-input-at.false) (rw c.number.ensures at c.r_line.ensures.put)

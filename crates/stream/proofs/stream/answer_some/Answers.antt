@@ -44,7 +44,7 @@ pub returns-in-Unmarked : goal.returns-in-Unmarked
 returns-in-Unmarked c =
     let l = c.loop-out in
     let e = sym c.next_record-next.ensures ∙ c.in-Unmarked.is in
-    let d = reached.unmarked l.invariant.3 c.loop-out-test.true e c.r_line-end.ensures.put in
+    let d = reached.unmarked l.invariant.3 c.loop-out-test.true e (rw c.number.ensures at c.r_line-end.ensures.put) in
     record { put = d.put; value = d.is }
 
 pub returns-in-Cut : goal.returns-in-Cut
