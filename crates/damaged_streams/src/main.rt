@@ -7,18 +7,11 @@
 ghost use Rattle.std.specs.Prelude.{◌≡◌, ◌+◌, ◌<◌, ◌≤◌, length};
 ghost use Rattle.stream.specs.Inside.Calls.{longest};
 
-// The descriptors of standard input and output.
+// The descriptor of standard input.
 const INPUT: i32 = 0;
 
+// And that of standard output.
 const OUTPUT: i32 = 1;
-
-// The least room in which a record is answered: where the program answers many records in a call,
-// this one needs a call for nearly each.
-fn line_buffer() -> [u8; stream::LONGEST]
-    ensures { longest ≡ length result }
-{
-    [0; stream::LONGEST]
-}
 
 fn print_number(number: u64) {
     io::write_all(OUTPUT, b"S ");
@@ -32,10 +25,8 @@ fn answer_stream(input: &[u8], out: &mut [u8])
 {
     let mut index: u64 = 0;
     let mut at: usize = 0;
-    let mut arrived: usize = 0;
-    while arrived < input.len() {
-        arrived = arrived + 1;
-        let progress = stream::answer_some(&input[..arrived], at, index, out);
+    for i in 0..input.len() {
+        let progress = stream::answer_some(&input[..i + 1], at, index, out);
         io::write_all(OUTPUT, &out[..progress.used]);
         if progress.refused {
             return;
@@ -53,8 +44,9 @@ fn answer_streams(input: &[u8], out: &mut [u8])
 {
     let mut number: u64 = 0;
     let mut at: usize = 0;
+    // A `while`: the lengths in the input tell how many streams they are.
     while 2 <= input.len() - at {
-        let length = input[at] as usize + 256 * (input[at + 1] as usize);
+        let length = u16::from_le_bytes([input[at], input[at + 1]]) as usize;
         let start = at + 2;
         if input.len() - start < length {
             return;
@@ -68,7 +60,9 @@ fn answer_streams(input: &[u8], out: &mut [u8])
 
 fn main() {
     let mut input = io::large_buffer();
-    let mut out = line_buffer();
+    // The least room in which a record is answered: where the program answers many records in a call,
+    // this one needs a call for nearly each.
+    let mut out: [u8; stream::LONGEST] = arith::filled(0);
     let got = io::read_full(INPUT, &mut input);
     answer_streams(&input[..got], &mut out);
 }

@@ -15,10 +15,8 @@ fn put_lines(numbers: &[u64], out: &mut [u8]) -> usize
     ensures { Put out.old out.new 0 result (bits_lines numbers.now (length numbers.now)) }
 {
     let mut at: usize = 0;
-    let mut i: usize = 0;
-    while i < numbers.len() {
-        at = records::bits_line(out, at, numbers[i]);
-        i += 1;
+    for number in numbers {
+        at = records::bits_line(out, at, *number);
     }
     at
 }
@@ -28,8 +26,7 @@ fn put_table(out: &mut [u8]) -> usize
     requires { 27200 ≤ length out.old }
     ensures { Put out.old out.new 0 result printed }
 {
-    let table = factors::table();
-    put_lines(&table, out)
+    put_lines(factors::table(), out)
 }
 
 // Writes them to standard output, out of the buffer.

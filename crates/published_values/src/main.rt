@@ -6,36 +6,37 @@
 
 ghost use Rattle.std.specs.Prelude.{◌≤◌, length};
 
-use modes::{Answer, Kind, Mode, Operation};
+use modes::{Kind, Mode, Operation, Pair, Radial, Refusal};
 use records::{Next, Record};
 
-// The descriptors of standard input and output.
+// The descriptor of standard input.
 const INPUT: i32 = 0;
 
+// And that of standard output.
 const OUTPUT: i32 = 1;
 
-// The place of degree n in a row of the mode, or 0 where there is none.
+// The place of degree n in a row of the mode. Where there is none the row is refused, and any place does:
+// all are 0.
 fn place_of(mode: Mode) -> usize
     ensures { result ≤ 199 }
 {
-    if mode.n < mode.m {
-        return 0;
-    }
-    let offset = (mode.n - mode.m) as usize;
+    let offset = mode.n.saturating_sub(mode.m) as usize;
     if 199 < offset {
         return 0;
     }
     offset
 }
 
-// The characteristic value of the mode of degree n, or 0 where the row is refused.
+// The characteristic value of the mode of degree n, 0 where the row is refused. No `Option`: what is printed
+// may not change, and the 0 is held against the published value like any other.
 fn value_of(kind: Kind, mode: Mode) -> f64 {
-    let mut values = [0.0; 200];
-    let mut steps: [u32; 200] = [0; 200];
-    let mut lowers = [0.0; 200];
-    let mut uppers = [0.0; 200];
-    let mut substituted: [u8; 200] = [0; 200];
-    modes::row(
+    // Five arrays, as the row goes into five slices.
+    let mut values: [f64; 200] = arith::filled(0.0);
+    let mut steps: [u32; 200] = arith::filled(0);
+    let mut lowers: [f64; 200] = arith::filled(0.0);
+    let mut uppers: [f64; 200] = arith::filled(0.0);
+    let mut substituted: [u8; 200] = arith::filled(0);
+    let _ = modes::row(
         kind,
         mode,
         65535,
@@ -48,35 +49,35 @@ fn value_of(kind: Kind, mode: Mode) -> f64 {
     values[place_of(mode)]
 }
 
-// DLMF's eigenvalue of the mode of degree n, or 0 where the row is refused.
+// DLMF's eigenvalue of the mode of degree n, and 0 again where the row is refused.
 fn eigenvalue_of(kind: Kind, mode: Mode) -> f64 {
-    let mut values = [0.0; 200];
-    modes::dlmf_row(kind, mode, 65535, &mut values);
+    let mut values: [f64; 200] = arith::filled(0.0);
+    let _ = modes::dlmf_row(kind, mode, 65535, &mut values);
     values[place_of(mode)]
 }
 
-// One of the numbers of an answer, or NaN where it has none.
-fn number_of(answer: Answer, which: u8) -> f64 {
-    match answer {
-        Answer::Pair(value, derivative) => {
-            if which == 0 {
-                return value;
-            }
-            derivative
-        }
-        Answer::Quadruple(value1, derivative1, value2, derivative2) => {
-            if which == 0 {
-                return value1;
-            }
-            if which == 1 {
-                return derivative1;
-            }
-            if which == 2 {
-                return value2;
-            }
-            derivative2
-        }
-        Answer::Refused(_) => 0.0 / 0.0,
+// One of the numbers of an answer, or NaN where it has none: no `Option`, for NaN agrees with no number.
+// A pair has two and both radial kinds have four, each with a function of its own.
+fn number_of_pair(answer: Result<Pair, Refusal>, which: u8) -> f64 {
+    let Ok(pair) = answer else {
+        return 0.0 / 0.0;
+    };
+    match which {
+        0 => pair.value,
+        _ => pair.derivative,
+    }
+}
+
+// The same of both radial kinds.
+fn number_of_radial(answer: Result<Radial, Refusal>, which: u8) -> f64 {
+    let Ok(kinds) = answer else {
+        return 0.0 / 0.0;
+    };
+    match which {
+        0 => kinds.first.value,
+        1 => kinds.first.derivative,
+        2 => kinds.second.value,
+        _ => kinds.second.derivative,
     }
 }
 
@@ -86,16 +87,19 @@ fn answer_to(request: Record, which: u8) -> f64 {
         n: request.n,
         c: request.c,
     };
-    let operation = modes::operation_of(request.operation);
+    let Ok(operation) = Operation::try_from(request.operation) else {
+        return 0.0 / 0.0;
+    };
     match operation {
         Operation::Row(kind) => value_of(kind, mode),
         Operation::Angular(kind) => {
-            number_of(modes::angular(kind, mode, request.cv, request.x), which)
+            number_of_pair(modes::angular(kind, mode, request.cv, request.x), which)
         }
-        Operation::Radial => number_of(modes::radial(mode, request.cv, request.x), which),
-        Operation::FirstKind => number_of(modes::first_kind(mode, request.cv, request.x), which),
+        Operation::Radial => number_of_radial(modes::radial(mode, request.cv, request.x), which),
+        Operation::FirstKind => {
+            number_of_pair(modes::first_kind(mode, request.cv, request.x), which)
+        }
         Operation::DlmfRow(kind) => eigenvalue_of(kind, mode),
-        Operation::Refused(_) => 0.0 / 0.0,
     }
 }
 
@@ -115,6 +119,7 @@ fn compare_all(input: &[u8])
 {
     let mut number: u64 = 0;
     let mut at: usize = 0;
+    // A `while`: it goes on by two records, as long as they are there.
     while 66 <= input.len() - at {
         let Next::Whole(request, _) = records::next_record(input, at) else {
             return;

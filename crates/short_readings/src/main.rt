@@ -3,23 +3,8 @@
 // across two. `tests/replay/run` writes the records and the oracle's lines.
 #![tactic(auto)]
 
-ghost use Rattle.std.specs.Prelude.{◌≡◌, length};
-ghost use Rattle.stream.specs.Inside.Calls.{longest};
-
-fn record_buffer() -> [u8; records::LONGEST]
-    ensures { 35 ≡ length result }
-{
-    [0; records::LONGEST]
-}
-
-fn line_buffer() -> [u8; stream::LONGEST]
-    ensures { longest ≡ length result }
-{
-    [0; stream::LONGEST]
-}
-
 fn main(rt: HostRuntime) {
-    let mut input = record_buffer();
-    let mut out = line_buffer();
+    let mut input: [u8; records::LONGEST] = arith::filled(0);
+    let mut out: [u8; stream::LONGEST] = arith::filled(0);
     reading::answer_all(&mut rt.stdin(), &mut rt.stdout(), &mut input, &mut out);
 }

@@ -1,8 +1,7 @@
 -- What a C caller holds after a call for one mode: the number, and the places that were lent. Definitions only.
 use Rattle.std.specs.Prelude.{Float}
 use Rattle.segv.specs.Row.{Numbered, answer}
-use Rattle.requests.specs.declared.answers.Answer.{Answer}
-use Rattle.requests.specs.declared.answers.Answer.TheVariants.{Pair, Quadruple, Refused}
+use Rattle.requests.specs.Answers.{Answer, Pair, Quadruple, Refused}
 
 -- an angular pair, or the first radial kind, is put into its two places with the number 0; else they are as they were. No call for a pair is answered by a quadruple
 unfoldable pub pair_put : Answer → Float × Float → Numbered (Float × Float)

@@ -1,28 +1,30 @@
 // The library as C and Rust callers link it; include/spheroidal.h declares it. Each function answers document 01's
-// refusal number, or 0, and asks nothing: a refused call leaves every place as it was.
+// refusal number, or 0, and asks nothing: a refused call leaves every place as it was. Prolate and oblate calls are
+// functions of their own, with m, n and c one by one, five slices for a row, a place for each number and an answer of 8
+// bits: that is the C interface, and the functions behind it take what it lends as it comes.
 #![tactic(auto)]
 
-ghost use Rattle.std.specs.Prelude.{◌≡◌, ℕ};
+ghost use Rattle.std.specs.Prelude.{◌≡◌};
 ghost use Rattle.segv.specs.Row.{slices, answer};
 ghost use Rattle.requests.specs.declared.checking.Kind.TheVariants.{Prolate, Oblate};
 ghost use Rattle.rows.specs.Rows.{row_of, dlmf_of};
-ghost use Rattle.requests.specs.Answers.{given};
+ghost use Rattle.requests.specs.Answers.{code, pair_answer};
 ghost use Rattle.modes.specs.Coefficients.{coefficients_of};
 ghost use Rattle.modes.specs.Angular.{angular_of};
-ghost use Rattle.modes.specs.Radial.{radial_of};
+ghost use Rattle.modes.specs.Radial.{radial_of, quadruple_answer};
 ghost use Rattle.modes.specs.FirstKind.{first_of};
 ghost use Rattle.sheets.specs.Sheet.{sheet_of};
 ghost use Rattle.spheroidal_c.specs.Places.{pair_put, quadruple_put};
 
-use modes::{Answer, Kind, Mode, SliceAnswer};
+use modes::{Kind, Mode, Pair, Radial, Refusal};
 
-// The number behind an answer.
-fn number(answer: SliceAnswer) -> u8
-    ensures { (k : ℕ) → answer ≡ given k → result ≡ k }
+// The number that a C caller is answered.
+fn code(answer: Result<(), Refusal>) -> u8
+    ensures { result ≡ code answer }
 {
     match answer {
-        SliceAnswer::Filled => 0,
-        SliceAnswer::Refused(refusal) => refusal,
+        Ok(()) => 0,
+        Err(refusal) => refusal.number(),
     }
 }
 
@@ -39,7 +41,7 @@ fn row(
     ensures { answer result (slices values.new steps.new lowers.new uppers.new substituted.new)
         ≡ row_of kind mode allowance (slices values.old steps.old lowers.old uppers.old substituted.old) }
 {
-    number(modes::row(
+    code(modes::row(
         kind,
         mode,
         allowance,
@@ -54,59 +56,55 @@ fn row(
 fn dlmf_row(kind: Kind, mode: Mode, allowance: u32, values: &mut [f64]) -> u8
     ensures { answer result values.new ≡ dlmf_of kind mode allowance values.old }
 {
-    number(modes::dlmf_row(kind, mode, allowance, values))
+    code(modes::dlmf_row(kind, mode, allowance, values))
 }
 
 fn coefficients(kind: Kind, mode: Mode, cv: f64, values: &mut [f64]) -> u8
     ensures { answer result values.new ≡ coefficients_of kind mode cv values.old }
 {
-    number(modes::coefficients(kind, mode, cv, values))
+    code(modes::coefficients(kind, mode, cv, values))
 }
 
-// Writes a pair into its places, or nothing for a refusal. The library never answers a call for a pair otherwise.
-fn put_pair(outcome: Answer, value: &mut f64, derivative: &mut f64) -> u8
-    ensures { answer result (value.new, derivative.new) ≡ pair_put outcome (value.old, derivative.old) }
+// Writes a pair into its places, or nothing for a refusal. C lends two places for a pair, and four for both radial kinds.
+#[tactic(auto, unfolding(crate::specs::Places::pair_put))]
+fn put_pair(
+    found: Result<Pair, Refusal>,
+    value: &mut f64,
+    derivative: &mut f64,
+) -> Result<(), Refusal>
+    ensures { answer (code result) (value.new, derivative.new) ≡ pair_put (pair_answer found) (value.old, derivative.old) }
 {
-    match outcome {
-        Answer::Pair(v, d) => {
-            *value = v;
-            *derivative = d;
-            0
-        }
-        Answer::Quadruple(_, _, _, _) => 0,
-        Answer::Refused(refusal) => refusal,
-    }
+    let pair = found?;
+    *value = pair.value;
+    *derivative = pair.derivative;
+    Ok(())
 }
 
 // The same for both radial kinds.
+#[tactic(auto, unfolding(crate::specs::Places::quadruple_put))]
 fn put_quadruple(
-    outcome: Answer,
+    found: Result<Radial, Refusal>,
     value1: &mut f64,
     derivative1: &mut f64,
     value2: &mut f64,
     derivative2: &mut f64,
-) -> u8
-    ensures { answer result (value1.new, derivative1.new, value2.new, derivative2.new)
-        ≡ quadruple_put outcome (value1.old, derivative1.old, value2.old, derivative2.old) }
+) -> Result<(), Refusal>
+    ensures { answer (code result) (value1.new, derivative1.new, value2.new, derivative2.new)
+        ≡ quadruple_put (quadruple_answer found) (value1.old, derivative1.old, value2.old, derivative2.old) }
 {
-    match outcome {
-        Answer::Pair(_, _) => 0,
-        Answer::Quadruple(v1, d1, v2, d2) => {
-            *value1 = v1;
-            *derivative1 = d1;
-            *value2 = v2;
-            *derivative2 = d2;
-            0
-        }
-        Answer::Refused(refusal) => refusal,
-    }
+    let kinds = found?;
+    *value1 = kinds.first.value;
+    *derivative1 = kinds.first.derivative;
+    *value2 = kinds.second.value;
+    *derivative2 = kinds.second.derivative;
+    Ok(())
 }
 
 fn angular(kind: Kind, mode: Mode, cv: f64, x: f64, value: &mut f64, derivative: &mut f64) -> u8
     ensures { answer result (value.new, derivative.new)
         ≡ pair_put (angular_of kind mode cv x) (value.old, derivative.old) }
 {
-    put_pair(modes::angular(kind, mode, cv, x), value, derivative)
+    code(put_pair(modes::angular(kind, mode, cv, x), value, derivative))
 }
 
 fn sheet(
@@ -120,7 +118,7 @@ fn sheet(
 ) -> u8
     ensures { answer result block.new ≡ sheet_of kind m n allowance cs.now xs.now block.old }
 {
-    number(sheets::sheet(kind, m, n, allowance, cs, xs, block))
+    code(sheets::sheet(kind, m, n, allowance, cs, xs, block))
 }
 
 // The characteristic values of the modes from m to n, each with its step number, its bracket, and 1 where 1e-30 was put
@@ -313,13 +311,13 @@ pub extern "C" fn spheroidal_oblate_radial(
     ensures { answer result (value1.new, derivative1.new, value2.new, derivative2.new)
         ≡ quadruple_put (radial_of (record { m = m; n = n; c = c }) cv x) (value1.old, derivative1.old, value2.old, derivative2.old) }
 {
-    put_quadruple(
+    code(put_quadruple(
         modes::radial(Mode { m, n, c }, cv, x),
         value1,
         derivative1,
         value2,
         derivative2,
-    )
+    ))
 }
 
 // The first oblate radial function of a mode with the characteristic value cv, and its derivative, at a finite x not below
@@ -337,9 +335,9 @@ pub extern "C" fn spheroidal_oblate_first_kind(
     ensures { answer result (value.new, derivative.new)
         ≡ pair_put (first_of (record { m = m; n = n; c = c }) cv x) (value.old, derivative.old) }
 {
-    put_pair(
+    code(put_pair(
         modes::first_kind(Mode { m, n, c }, cv, x),
         value,
         derivative,
-    )
+    ))
 }

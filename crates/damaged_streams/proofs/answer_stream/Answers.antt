@@ -19,40 +19,37 @@ stays_on input room {at} {arrived} {index} r fits s e =
     let w = m.within (omega (arith, s.within)) in
     record { within = omega arith; counted = omega (arith, m.fewest, m.most, s.counted) }
 
-pub loop-arrived-init : goal.loop-arrived-init
-loop-arrived-init c = (refl, omega arith, record { within = omega arith; counted = omega arith })
+pub loop-i-init : goal.loop-i-init
+loop-i-init c = (refl, record { within = omega arith; counted = omega arith })
 
 pub slice_bounds-answer_some-end : goal.slice_bounds-answer_some-end
 slice_bounds-answer_some-end c = sym (length-take-le _ _ (omega arith))
 
 pub answer_some-progress-requires : goal.answer_some-progress-requires
 answer_some-progress-requires c =
-    let l = c.loop-arrived in
-    let n = length-take-le (l.arrived + 1) c.args.input.now (omega arith) in
-    omega (arith, n, l.invariant.1, l.invariant.2.within, l.invariant.2.counted)
+    let l = c.loop-i in
+    let n = length-take-le (l.i + 1) c.args.input.now (omega arith) in
+    omega (arith, n, l.invariant.1.within, l.invariant.1.counted)
 
-pub slice_bounds-write_all-end-in-loop-arrived : goal.slice_bounds-write_all-end-in-loop-arrived
-slice_bounds-write_all-end-in-loop-arrived c =
+pub slice_bounds-write_all-end-in-loop-i : goal.slice_bounds-write_all-end-in-loop-i
+slice_bounds-write_all-end-in-loop-i c =
     let call = c.answer_some-progress in
     sym (length-take-le call.result.used _ (omega (arith, put_length call.ensures.put, call.ensures.put.fits)))
 
 pub shape_of-out-then-progress : goal.shape_of-out-then-progress
-shape_of-out-then-progress c = put_length c.answer_some-progress.ensures.put ∙ c.loop-arrived.invariant.0
+shape_of-out-then-progress c = put_length c.answer_some-progress.ensures.put ∙ c.loop-i.invariant.0
 
 pub returns-then-progress : goal.returns-then-progress
-returns-then-progress c = put_length c.answer_some-progress.ensures.put ∙ c.loop-arrived.invariant.0
+returns-then-progress c = put_length c.answer_some-progress.ensures.put ∙ c.loop-i.invariant.0
 
-pub loop-arrived-smaller : goal.loop-arrived-smaller
-loop-arrived-smaller c = omega arith
-
-pub loop-arrived-preserved : goal.loop-arrived-preserved
-loop-arrived-preserved c =
-    let l = c.loop-arrived in
+pub loop-i-preserved : goal.loop-i-preserved
+loop-i-preserved c =
+    let l = c.loop-i in
     let call = c.answer_some-progress in
-    (put_length call.ensures.put ∙ l.invariant.0, omega arith, stays_on c.args.input.now _ call.result (omega arith) l.invariant.2 call.ensures.value)
+    (put_length call.ensures.put ∙ l.invariant.0, stays_on c.args.input.now _ call.result (omega arith) l.invariant.1 call.ensures.value)
 
 pub answer_end-used-requires : goal.answer_end-used-requires
-answer_end-used-requires c = omega (arith, c.loop-arrived.invariant.0)
+answer_end-used-requires c = omega (arith, c.loop-i.invariant.0)
 
 pub slice_bounds-write_all-end-3 : goal.slice_bounds-write_all-end-3
 slice_bounds-write_all-end-3 c =
@@ -60,7 +57,7 @@ slice_bounds-write_all-end-3 c =
     sym (length-take-le call.result _ (omega (arith, put_length call.ensures, call.ensures.fits)))
 
 pub shape_of-out : goal.shape_of-out
-shape_of-out c = put_length c.answer_end-used.ensures ∙ c.loop-arrived.invariant.0
+shape_of-out c = put_length c.answer_end-used.ensures ∙ c.loop-i.invariant.0
 
 pub returns : goal.returns
-returns c = put_length c.answer_end-used.ensures ∙ c.loop-arrived.invariant.0
+returns c = put_length c.answer_end-used.ensures ∙ c.loop-i.invariant.0

@@ -9,8 +9,5 @@ pub record Stays (at arrived index : ℕ) : Type 0 where
   pub within : at ≤ arrived
   pub counted : index ≤ at
 
-abbrev pub invariant-loop-arrived : goal.invariant-loop-arrived
-invariant-loop-arrived l = (length l.out ≡ length l.initial.out) × (l.arrived ≤ length l.input) × Stays l.at l.arrived l.index
-
-abbrev pub decreases-loop-arrived : goal.decreases-loop-arrived
-decreases-loop-arrived l = length l.input - l.arrived
+abbrev pub invariant-loop-i : goal.invariant-loop-i
+invariant-loop-i l = (length l.out ≡ length l.initial.out) × Stays l.at l.i l.index

@@ -7,20 +7,20 @@ use Rattle.records.proofs.Laws.{put_nothing, put_then, put_length}
 use Rattle.factor_table.specs.Printed.{bits_lines}
 use Rattle.factor_table.proofs.put_lines.Goals as goal
 
-pub loop-i-init : goal.loop-i-init
+pub loop-number-init : goal.loop-number-init
 unfolding bits_lines
-loop-i-init c = (omega arith, refl, refl, put_nothing _ 0 (omega arith))
+loop-number-init c = (refl, refl, put_nothing _ 0 (omega arith))
 
-pub loop-i-preserved : goal.loop-i-preserved
+pub loop-number-preserved : goal.loop-number-preserved
 unfolding bits_lines
-loop-i-preserved c =
-    let l = c.loop-i in
+loop-number-preserved c =
+    let l = c.loop-number in
     let p = c.bits_line-at.ensures in
-    let q = put_then l.invariant.3 p.put in
-    (omega arith, put_length q, omega (arith, p.value), rw (add-one l.i) q)
+    let q = put_then l.invariant.2 p.put in
+    (put_length q, omega (arith, p.value), rw (add-one l.number-index) q)
 
 pub returns : goal.returns
 returns c =
-    let l = c.loop-i in
-    let all : l.i ≡ length c.args.numbers.now = omega arith in
-    rw (← all) l.invariant.3
+    let l = c.loop-number in
+    let all : l.number-index ≡ length c.args.numbers.now = omega arith in
+    rw (← all) l.invariant.2

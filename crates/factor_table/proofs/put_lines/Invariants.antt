@@ -6,9 +6,6 @@ use Rattle.records.specs.Text.{Put}
 use Rattle.factor_table.specs.Printed.{bits_lines}
 use Rattle.factor_table.proofs.put_lines.Given as goal
 
-abbrev pub invariant-loop-i : goal.invariant-loop-i
-invariant-loop-i l =
-    (l.i ≤ length l.numbers) × (length l.out ≡ length l.initial.out) × (l.at ≡ 17 * l.i) × Put l.initial.out l.out 0 l.at (bits_lines l.numbers l.i)
-
-abbrev pub decreases-loop-i : goal.decreases-loop-i
-decreases-loop-i l = length l.numbers - l.i
+abbrev pub invariant-loop-number : goal.invariant-loop-number
+invariant-loop-number l =
+    (length l.out ≡ length l.initial.out) × (l.at ≡ 17 * l.number-index) × Put l.initial.out l.out 0 l.at (bits_lines l.numbers l.number-index)

@@ -3,4 +3,4 @@ use Rattle.factors.proofs.Places.{table_length}
 use Rattle.factor_table.proofs.put_table.Goals as goal
 
 pub returns : goal.returns
-returns c = rw (c.table-table.ensures, table_length) at c.put_lines.ensures
+returns c = rw (c.table.ensures, table_length) at c.put_lines.ensures

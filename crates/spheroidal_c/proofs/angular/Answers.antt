@@ -2,4 +2,4 @@
 use Rattle.spheroidal_c.proofs.angular.Goals as goal
 
 pub returns : goal.returns
-returns c = rw (← c.angular.ensures) c.put_pair.ensures
+returns c = rw (c.code.ensures, ← c.angular.ensures) c.put_pair.ensures

@@ -2,4 +2,4 @@
 use Rattle.spheroidal_c.proofs.spheroidal_oblate_radial.Goals as goal
 
 pub returns : goal.returns
-returns c = rw (← c.radial.ensures) c.put_quadruple.ensures
+returns c = rw (c.code.ensures, ← c.radial.ensures) c.put_quadruple.ensures
