@@ -32,11 +32,11 @@ others_alike places place j k x s h = rw h
 -- what a family has for its place at q
 abbrev pub last_in : Family → ℕ → Last
 last_in (Ok out) q = Ok (get_or out q no_bracket).value
-last_in (Err e) q = Err e
+last_in (Err out) q = Err (record {})
 
-found_agrees : (f : Search) (on : Bracket → Family) (next : Bracket → Last) (q : ℕ) → ((r : Bracket) → last_in (on r) q ≡ next r) → last_in (on_search f on) q ≡ on_found f next
-found_agrees (Ok r) on next q h = h r
-found_agrees (Err e) on next q h = refl
+found_agrees : (f : Search) (out : List Bracket) (on : Bracket → Family) (next : Bracket → Last) (q : ℕ) → ((r : Bracket) → last_in (on r) q ≡ next r) → last_in (on_search f out on) q ≡ on_found f next
+found_agrees (Ok r) out on next q h = h r
+found_agrees (Err e) out on next q h = refl
 
 module _ (d e : List Float) (entries places : ℕ) where
   -- ---- what a bisection finds does not depend on steps and flag before it, nor on the value
@@ -106,6 +106,6 @@ module _ (d e : List Float) (entries places : ℕ) where
         let q : p + suc n - 1 ≡ p + 1 + n - 1 = omega arith in
         let b = bisection d e entries places (p + 1) allowance (opened_at s p places) s in
         rw q
-        (found_agrees b.found _ _ (p + 1 + n - 1)
+        (found_agrees b.found out _ _ (p + 1 + n - 1)
         (λ (r : Bracket). last_agrees n (p + 1) (ends b.ends.uppers (set b.ends.lowers p r.lower)) (set out p r) r.value (length-set out p r ∙ hl) (omega arith)
         (let z : p + 1 - 1 ≡ p = omega arith in rw (z, get_or-set_same out p r no_bracket (omega (arith, hl))))))

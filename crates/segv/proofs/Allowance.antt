@@ -50,7 +50,7 @@ module _ (ds es : List Float) (entries places : ℕ) where
 
       go : (x y : Outcome) (f : Search) → y.found ≡ f → (Found y.found → x ≡ y)
           → ((s : Ends) (out : List Bracket) → stopped (family_from ds es entries places a n (p + 1) s out) ≡ false → family_from ds es entries places b n (p + 1) s out ≡ family_from ds es entries places a n (p + 1) s out)
-          → stopped (on_search y.found (next a y)) ≡ false → on_search x.found (next b x) ≡ on_search y.found (next a y)
+          → stopped (on_search y.found out (next a y)) ≡ false → on_search x.found out (next b x) ≡ on_search y.found out (next a y)
       go x y (Ok r) e same again k =
           let g : Found y.found = rw e tt in
           rw (same g, e) (again _ _ (rw e at k))

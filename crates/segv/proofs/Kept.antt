@@ -86,21 +86,21 @@ module _ (P : Float → Type 0) (mid : (u l : Float) → P u → P l → P ((u �
     unfolding blank_bracket
     blanks z q hq = subst (λ (b : Bracket). P b.value) (sym (get_or-replicate 100 q blank_bracket no_bracket hq)) z
 
-    from_kept : (allowance n p : ℕ) (s : Ends) (out : List Bracket) → p + n ≡ places → P #0 → All s → Values out → Values (brackets (family_from ds es entries places allowance n p s out))
+    from_kept : (allowance n p : ℕ) (s : Ends) (out : List Bracket) → p + n ≡ places → All s → Values out → Values (brackets (family_from ds es entries places allowance n p s out))
     unfolding family_from
-    from_kept allowance zero p s out h z g old = old
-    from_kept allowance (suc n) p s out h z g old =
+    from_kept allowance zero p s out h g old = old
+    from_kept allowance (suc n) p s out h g old =
         let b = bisection ds es entries places (p + 1) allowance (opened_at s p places) s in
         let k = bisection_kept (p + 1) allowance (opened_at s p places) s (open_kept p s (omega arith) g) g in
-        by_found Whole (λ (f : Family). Values (brackets f)) b.found _ k.found (λ _. blanks z)
-        (λ r w. from_kept allowance n (p + 1) _ _ (omega arith) z
+        by_found Whole (λ (f : Family). Values (brackets f)) b.found out _ k.found old
+        (λ r w. from_kept allowance n (p + 1) _ _ (omega arith)
         (record { lows = λ q hq. stored P nan b.ends.lowers p q r.lower (k.left.lows q hq) (λ _. w.1.0); highs = k.left.highs })
         (λ q hq. stored (λ (b : Bracket). P b.value) no_bracket out p q r (old q hq) (λ _. w.0)))
 
     family_kept : (allowance : ℕ) (bounds : Bounds) → places ≤ 100 → P #0 → P bounds.lower → P bounds.upper → Values (brackets (bisected_family ds es entries places allowance bounds))
     unfolding bisected_family
     family_kept allowance bounds h z low high =
-        from_kept allowance places 0 _ _ (omega arith) z
+        from_kept allowance places 0 _ _ (omega arith)
         (record {
           lows = λ q hq. subst P (sym (get_or-replicate 100 q bounds.lower nan (omega arith))) low;
           highs = λ q hq. subst P (sym (get_or-replicate 100 q bounds.upper nan (omega arith))) high;

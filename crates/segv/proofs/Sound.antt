@@ -22,7 +22,6 @@ use Rattle.sturm.proofs.Stored.{stored}
 use Rattle.arith.specs.Double.{at}
 use Rattle.arith.specs.Choice.{lesser, greater}
 use Rattle.segv.specs.declared.bisection.Bracket.{Bracket}
-use Rattle.segv.specs.declared.bisection.OutOfSteps.{OutOfSteps}
 use Rattle.std.specs.Prelude.{Ok, Err}
 use Rattle.segv.specs.declared.ends.Ends.{Ends}
 use Rattle.segv.specs.Bisection.{Search, Outcome, bisection, with_midpoint, converged, tighten, tighten_others, tighten_counted}
@@ -35,9 +34,9 @@ abbrev pub Found : (Bracket → Type 0) → Search → Type 0
 Found P (Ok r) = P r
 Found P (Err e) = Unit {0}
 
-pub by_found : (P : Bracket → Type 0) (Q : Family → Type 0) (f : Search) (next : Bracket → Family) → Found P f → ((e : OutOfSteps) → Q (Err e)) → ((r : Bracket) → P r → Q (next r)) → Q (on_search f next)
-by_found P Q (Ok r) next h a b = b r h
-by_found P Q (Err e) next h a b = a e
+pub by_found : (P : Bracket → Type 0) (Q : Family → Type 0) (f : Search) (out : List Bracket) (next : Bracket → Family) → Found P f → Q (Err out) → ((r : Bracket) → P r → Q (next r)) → Q (on_search f out next)
+by_found P Q (Ok r) out next h a b = b r h
+by_found P Q (Err e) out next h a b = a
 
 module _ (ds es : List Float) (entries : ℕ) (bounds : Bounds) (allowance : ℕ) where
   abbrev Lo : ℕ → Float → Type 0
@@ -195,8 +194,8 @@ module _ (ds es : List Float) (entries : ℕ) (bounds : Bounds) (allowance : ℕ
   from_sound places hp hl (suc n) p s out hn ho g old =
       let b = bisection ds es entries places (p + 1) allowance (opened_at s p places) s in
       let k : Held places (p + 1) b = bisection_sound places (p + 1) (opened_at s p places) hp (omega arith) allowance (opened_at s p places) s (zero-add allowance) (record { steps = zero-add _; flag = refl }) (open_good places p s (omega arith) g) g in
-      by_found (Sound ds es entries bounds allowance (p + 1)) (Fine places) b.found _ k.found
-      (λ _ e. not_left e)
+      by_found (Sound ds es entries bounds allowance (p + 1)) (Fine places) b.found out _ k.found
+      (λ e. not_left e)
       (λ r h. from_sound places hp hl n (p + 1) _ _ (omega arith) (length-set out p r ∙ ho)
       (record {
         lows = λ q hq. stored (Lo (q + 1)) nan b.ends.lowers p q r.lower (k.left.lows q hq) (λ eq. rw eq h.below);

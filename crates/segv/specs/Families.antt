@@ -32,14 +32,14 @@ opened_at s p places = between (raised s.lowers p) (first_below s.uppers (at s.u
 
 -- ---- all places of a parity
 
--- the brackets of a parity's places, or that one of them was out of steps
+-- the brackets of a parity's places, or, where one of them was out of steps, those with the brackets found before it
 abbrev pub Family : Type 0
-Family = Result (List Bracket) OutOfSteps
+Family = Result (List Bracket) (List Bracket)
 
--- what comes of a search: that it was out of steps, or what `next` gives of the bracket found
-abbrev pub on_search : Search → (Bracket → Family) → Family
-on_search (Ok r) next = next r
-on_search (Err e) next = Err e
+-- what comes of a search: `out` where it was out of steps, or what `next` gives of the bracket found
+abbrev pub on_search : Search → List Bracket → (Bracket → Family) → Family
+on_search (Ok r) out next = next r
+on_search (Err e) out next = Err out
 
 unfoldable pub blank_bracket : Bracket
 blank_bracket = between #0 #0
@@ -56,7 +56,7 @@ module _ (ds es : List Float) (entries places allowance : ℕ) where
   family_from zero p s out = Ok out
   family_from (suc n) p s out =
       let b = bisection ds es entries places (p + 1) allowance (opened_at s p places) s in
-      on_search b.found (λ r. family_from n (p + 1) (record { uppers = b.ends.uppers; lowers = set b.ends.lowers p r.lower }) (set out p r))
+      on_search b.found out (λ r. family_from n (p + 1) (record { uppers = b.ends.uppers; lowers = set b.ends.lowers p r.lower }) (set out p r))
 
   unfoldable pub bisected_family : Bounds → Family
   bisected_family bounds = family_from places 0 (ends_within bounds) (replicate 100 blank_bracket)
@@ -74,10 +74,15 @@ family_of m parity cs entries places allowance =
 abbrev pub stopped : Family → Bool
 stopped f = is_err f
 
--- the brackets of a family, which a family that stopped hands to nobody
+-- the brackets of a family, of one that stopped those found so far
 abbrev pub brackets : Family → List Bracket
 brackets (Ok out) = out
-brackets (Err e) = replicate 100 blank_bracket
+brackets (Err out) = out
+
+-- what a family hands on: of one that stopped no bracket
+abbrev pub handed_on : Family → Result (List Bracket) OutOfSteps
+handed_on (Ok out) = Ok out
+handed_on (Err out) = Err (record {})
 
 pub record Families : Type 0 where
   pub even : Family

@@ -26,7 +26,7 @@ fn bisect_family(
     limits: Limits,
     bounds: sturm::Bounds,
 ) -> Result<[Bracket; 100], OutOfSteps>
-    ensures { result ≡ Families.bisected_family matrix.now.d matrix.now.e matrix.now.entries limits.places limits.allowance bounds }
+    ensures { result ≡ Families.handed_on (Families.bisected_family matrix.now.d matrix.now.e matrix.now.entries limits.places limits.allowance bounds) }
 {
     let mut ends = Ends::within(bounds);
     let mut out = blank_brackets();
@@ -49,7 +49,7 @@ pub(crate) fn family_of(
     limits: Limits,
 ) -> Result<[Bracket; 100], OutOfSteps>
     requires { (m < 1000) × (parity < 2) × (0 < entries) × (entries ≤ 300) }
-    ensures { result ≡ Families.family_of m parity cs entries limits.places limits.allowance }
+    ensures { result ≡ Families.handed_on (Families.family_of m parity cs entries limits.places limits.allowance) }
 {
     let matrix = sturm::family_matrix(m, parity, cs, entries);
     bisect_family(&matrix, limits, matrix.gershgorin())
