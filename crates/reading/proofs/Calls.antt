@@ -2,10 +2,9 @@
 use Prim.Native.Nat.{ℕ, zero, suc, ◌+◌, ◌<◌, ◌≤◌}
 use mathlib.Core.Path.{◌≡◌, refl, sym, ap, ◌∙◌}
 use mathlib.Core.Logic.{◌≢◌}
-use mathlib.Core.Bool.{Bool, true, false, cond}
+use mathlib.Core.Bool.{Bool, true, false, true≢false}
 use mathlib.Core.List.{List, [], ◌++◌}
 use native.Mathlib.Omega.{arith}
-use Rattle.std.proofs.Common.{rules}
 use borrow.Author.Tests.{le-leb, lt-leb}
 use lib.ListN.{length}
 use Rattle.stream.specs.declared.stream.Progress.{Progress}
@@ -14,40 +13,33 @@ use Rattle.stream.specs.Readings.{calls_in, answers_to}
 use Rattle.stream.proofs.StreamLaws.{moves}
 use Rattle.stream.proofs.Readings.{further, Enough, calls_refused, calls_through, calls_on}
 use Rattle.reading.specs.declared.State.{State}
-use Rattle.reading.specs.declared.State.TheVariants.{Going, Refused, Unread}
-use Rattle.reading.specs.Loop.{Answers, state_of}
+use Rattle.reading.specs.declared.State.TheVariants.{Going}
+use Rattle.reading.specs.Loop.{Answers, state_of, refuses, taken}
 
 -- ---- what a state tells
-refused≢going : Refused ≢ Going
-refused≢going h = search rules
+pub refuses_is : (refused written : Bool) → refuses (state_of refused written) ≡ refused
+refuses_is false false = refl
+refuses_is false true = refl
+refuses_is true false = refl
+refuses_is true true = refl
 
-unread≢going : Unread ≢ Going
-unread≢going h = search rules
-
-abbrev refusal : Bool → State
-refusal refused = cond refused Refused Going
+taken_is : (refused written : Bool) → taken (state_of refused written) ≡ written
+taken_is false false = refl
+taken_is false true = refl
+taken_is true false = refl
+taken_is true true = refl
 
 pub going_is : {state : State} (refused written : Bool) → state ≡ state_of refused written → state ≡ Going → refused ≡ false
-going_is refused written e g = go refused written (sym e ∙ g)
-  where
-    go : (t w : Bool) → state_of t w ≡ Going → t ≡ false
-    go false w h = refl
-    go true true h = absurd (refused≢going h)
-    go true false h = absurd (unread≢going h)
+going_is refused written e g = sym (refuses_is refused written) ∙ ap refuses (sym e ∙ g)
 
-read_is : {state : State} (refused written : Bool) → state ≡ state_of refused written → state ≢ Unread → state ≡ refusal refused
-read_is {state} refused written e h = go written e
+-- one that does not go on, though its lines were taken, is refused
+refused_is : {state : State} (refused written : Bool) → state ≡ state_of refused written → state ≢ Going → taken state ≡ true → refused ≡ true
+refused_is {state} refused written e g h = go refused written e
   where
-    go : (w : Bool) → state ≡ state_of refused w → state ≡ refusal refused
-    go true e = e
-    go false e = absurd (h e)
-
-refused_is : {state : State} (refused written : Bool) → state ≡ state_of refused written → state ≢ Going → state ≢ Unread → refused ≡ true
-refused_is {state} refused written e g h = go refused (read_is refused written e h)
-  where
-    go : (t : Bool) → state ≡ refusal t → t ≡ true
-    go true e = refl
-    go false e = absurd (g e)
+    go : (t w : Bool) → state ≡ state_of t w → t ≡ true
+    go true w e = refl
+    go false true e = absurd (g e)
+    go false false e = absurd (true≢false (sym h ∙ ap taken e))
 
 -- what is left to do gives what all calls give
 pub record Reached (input : List ℕ) (room first at index : ℕ) : Type 0 where
@@ -111,7 +103,7 @@ module _ {input : List ℕ} {room first at index : ℕ} (s : Reached input room 
           through = λ g. absurd (h g);
           at = λ read. is_at (last (refused_is _ written told_state h read));
           index = λ read. is_index (last (refused_is _ written told_state h read));
-          refused = λ read. read_is _ written told_state read ∙ ap refusal (is_refused (last (refused_is _ written told_state h read)));
+          refused = λ read. ap refuses told_state ∙ refuses_is _ written ∙ is_refused (last (refused_is _ written told_state h read));
         }
 
     pub through : state ≡ Going → r.used + longest ≤ room → Answers input room first (record { at = r.at; index = r.index; state = state })
@@ -124,7 +116,7 @@ module _ {input : List ℕ} {room first at index : ℕ} (s : Reached input room 
           through = λ _. let m = (moves input room at index r e).through h f in omega arith;
           at = λ _. is_at all;
           index = λ _. is_index all;
-          refused = λ read. read_is _ written told_state read ∙ ap refusal (is_refused all);
+          refused = λ _. ap refuses told_state ∙ refuses_is _ written ∙ is_refused all;
         }
 
   -- there may be more to answer

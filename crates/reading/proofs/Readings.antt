@@ -1,20 +1,16 @@
 -- What `take_reading` and `answer_all` keep from reading to reading. Assumes nothing.
 use Prim.Native.Nat.{ℕ, ◌+◌, ◌-◌, ◌≤◌}
 use mathlib.Core.Path.{◌≡◌, refl, sym, ap, subst, ◌∙◌}
-use mathlib.Core.Logic.{◌≢◌}
+use mathlib.Core.Bool.{true}
 use mathlib.Core.List.{List, [], ◌∷◌, ◌++◌}
 use native.Mathlib.Omega.{arith}
-use Rattle.std.proofs.Common.{rules}
 use lib.ListN.{length, take, drop, length-drop}
 use lib.Seq.{length-take-le, take-add}
 use Rattle.reading.specs.declared.Arrived.{Arrived}
 use Rattle.reading.specs.declared.Reading.{Reading}
 use Rattle.reading.specs.declared.State.{State}
-use Rattle.reading.specs.declared.State.TheVariants.{Going, Unread}
-use Rattle.reading.specs.Loop.{Answers, held_after, total, Keeps}
-
-going≢unread : Going ≢ Unread
-going≢unread h = search rules
+use Rattle.reading.specs.declared.State.TheVariants.{Going}
+use Rattle.reading.specs.Loop.{Answers, taken, held_after, total, Keeps}
 
 pub started : (room : ℕ) (buffer : List ℕ) → Keeps room buffer (record { got = 0; bytes = 0; held = 0; index = 0; state = Going })
 unfolding held_after total
@@ -44,7 +40,7 @@ module _ {room : ℕ} {buffer : List ℕ} {before : Reading} (k : Keeps room buf
     pub on : arrived.state ≡ Going → Keeps room kept (record { got = got; bytes = before.bytes + got; held = before.held + got - arrived.at; index = arrived.index; state = arrived.state })
     unfolding held_after total
     on going =
-        let read : arrived.state ≢ Unread = (λ u. going≢unread (sym going ∙ u)) in
+        let read : taken arrived.state ≡ true = ap taken going in
         let n = length-take-le (before.held + got) after fits in
         let short = a.through going in
         record {

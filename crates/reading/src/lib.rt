@@ -21,6 +21,8 @@ pub enum State {
     Refused,
     // The lines were not taken: nobody reads them any more.
     Unread,
+    // Neither: they were not taken, and the last of them refuses it.
+    RefusedUnread,
 }
 
 // How far the bytes that are there were answered.
@@ -51,13 +53,12 @@ pub struct Reading {
 fn state_of(refused: bool, written: bool) -> State
     ensures { result ≡ state_of refused written }
 {
-    if !written {
-        return State::Unread;
+    match (refused, written) {
+        (false, true) => State::Going,
+        (true, true) => State::Refused,
+        (false, false) => State::Unread,
+        (true, false) => State::RefusedUnread,
     }
-    if refused {
-        return State::Refused;
-    }
-    State::Going
 }
 
 // Writes the lines of all whole records that are there.
