@@ -45,7 +45,7 @@
  *
  * The functions keep no state, allocate nothing, touch no errno and may run in any number of threads
  * at once. Measured on x86-64, they use up to 29,700 bytes of stack in rows, 35,400 in DLMF rows,
- * 73,300 in sheets, 16,100 in radial functions and 8,500 in the others. Made by rattle-kit-5, the
+ * 73,300 in sheets, 14,400 in radial functions and 8,500 in the others. Made by rattle-kit-5, the
  * others used 5,200, and rows and sheets up to 200 less. Before 6.0 DLMF rows used 400 bytes less, with
  * steps of 16 bits; before 3.0.1 rows of both forms used 2,416 bytes more than after, for a buffer of
  * squares.

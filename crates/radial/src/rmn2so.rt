@@ -59,7 +59,7 @@ pub(crate) fn rmn2so(
     let factors = joining::qstar::qstar(ck, mode.m, mode.n, mode.c, ck1);
     let bk = joining::cbk::cbk(ck, mode, cv, factors.qt);
     if x == 0.0 {
-        let nm = radial_sums::limits::second_terms(mode);
+        let nm = radial_sums::limits::second_terms(mode.offset(), mode.c);
         let sum = radial_sums::rmn1::powers_sum(ck, nm);
         return combined(mode.parity(), sum / ck1, factors.qs, bk[0]);
     }

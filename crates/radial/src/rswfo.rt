@@ -22,11 +22,14 @@ pub struct Radial {
 // mode, cv and x stay three: cv is any double, so that a struct of them would hold no fact besides that of
 // the mode, and off the disc `OffDisc` has the mode and x.
 
-// The expansion coefficients: the mode is oblate.
-fn coefficients(mode: Mode, cv: f64) -> Places
-    ensures { result ≡ Rswfo.coefficients mode.m mode.n mode.c cv }
+// The expansion coefficients, into a place of the caller's: the mode is oblate. A call, and no array handed
+// out, since `OffDisc` borrows them: the compiler then keeps what it is handed beside what is borrowed, and
+// the header promises C how much stack there is.
+#[inline(never)]
+fn put_coefficients(mode: Mode, cv: f64, df: &mut Places)
+    ensures { df.new ≡ Rswfo.coefficients mode.m mode.n mode.c cv }
 {
-    expansion::sdmn::sdmn(mode, cv, -1.0)
+    *df = expansion::sdmn::sdmn(mode, cv, -1.0);
 }
 
 // The second kind from the disc's coefficients.
@@ -77,7 +80,8 @@ pub fn rswfo(mode: Mode, cv: f64, x: f64) -> Option<Radial>
     requires { eq x #0 ≡ false → 2 * terms_of (mode.n - mode.m) mode.c + mode.m ≤ 251 }
     ensures { result ≡ Rswfo.rswfo mode.m mode.n mode.c cv x }
 {
-    let df = coefficients(mode, cv);
+    let mut df: Places = arith::filled(0.0);
+    put_coefficients(mode, cv, &mut df);
     if x == 0.0 {
         return Some(on_disc(&df, mode, cv, x));
     }
@@ -92,6 +96,7 @@ pub fn first_kind(mode: Mode, cv: f64, x: f64) -> Option<Pair>
     requires { eq x #0 ≡ false → 2 * terms_of (mode.n - mode.m) mode.c + mode.m ≤ 251 }
     ensures { result ≡ Rswfo.first_kind mode.m mode.n mode.c cv x }
 {
-    let df = coefficients(mode, cv);
+    let mut df: Places = arith::filled(0.0);
+    put_coefficients(mode, cv, &mut df);
     radial_sums::rmn1::rmn1(&df, mode, x)
 }
