@@ -9,7 +9,7 @@ ghost use Rattle.angular.specs.Inside.Turns.{in_turn};
 use super::sums::Stage;
 use expansion::sums::Places;
 use expansion::terms::Mode;
-use expansion::values::Pair;
+pub use expansion::values::Pair;
 
 // The derivative at |x| = 1.
 #[tactic(auto, unfolding(crate::specs::Aswfa::derivative_at_one))]

@@ -98,12 +98,12 @@ struct Sum {
 
 // The recurrence by which the coefficients of one parity are formed.
 #[derive(Clone, Copy)]
-struct Recurrence {
-    m: u32,
+pub struct Recurrence {
+    pub m: u32,
     // The parity of n - m.
-    ip: u32,
-    cs: f64,
-    cv: f64,
+    pub ip: u32,
+    pub cs: f64,
+    pub cv: f64,
     ghost small: { (m < 1000) × (ip < 2) },
 }
 

@@ -23,7 +23,7 @@ pub fn find_common(df: &[f64; 200], mode: Mode) -> Common
     let m = mode.m;
     let ip = mode.parity();
     let half = mode.offset() / 2;
-    let nm = super::limits::first_terms(mode);
+    let nm = super::limits::first_terms(mode.offset(), mode.c);
     let reg = expansion::sckb::regulator(m, nm);
     let p = joining::sums::expansion_partial(Test::Product, df, m, ip, half, nm, reg);
     let r0 = expansion::products::rise(reg, 1, 2 * m + ip);

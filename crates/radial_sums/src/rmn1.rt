@@ -7,8 +7,9 @@ ghost use Rattle.radial_sums.specs.Rmn1 as Rmn1;
 
 use super::off_disc::OffDisc;
 use bessel::sphj::Places;
+pub use expansion::products::half_of_m;
 use expansion::terms::Mode;
-use expansion::values::Pair;
+pub use expansion::values::Pair;
 use joining::sums::Test;
 
 // The sum of the first nm power coefficients, until it has settled.
@@ -68,7 +69,7 @@ pub fn on_disc(df: &[f64; 200], ck: &[f64; 200], mode: Mode) -> Pair
     let c = mode.c;
     let ip = mode.parity();
     let half = mode.offset() / 2;
-    let nm = super::limits::first_terms(mode);
+    let nm = super::limits::first_terms(mode.offset(), mode.c);
     let reg = expansion::sckb::regulator(m, nm);
     // The source calls it suc.
     let df_sum = joining::sums::expansion_sum(Test::Product, df, m, ip, half, nm, reg);
@@ -87,7 +88,7 @@ pub(crate) fn joined(at: &OffDisc, sum: f64, sud: f64) -> Pair
     let c = at.mode.c;
     let x = at.x;
     let w = 1.0 - -1.0 / (x * x);
-    let a0 = expansion::products::half_of_m(w, m) / at.common.suc;
+    let a0 = half_of_m(w, m) / at.common.suc;
     let value = sum * a0;
     // -m as a whole number: of 0 it is +0
     let b0 = (0.0 - m as f64) / arith::power(x, 3) / w * value;

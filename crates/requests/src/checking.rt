@@ -157,8 +157,21 @@ pub fn entries(mode: Mode) -> u32
 }
 
 // Whether x is not zero, and 2N + m is above 251 or c * x above 200.
+pub fn too_far(mode: Mode, x: f64) -> bool
+    requires { Refusals.mode_refusal mode ≡ 0 }
+    ensures { result ≡ Refusals.too_far mode x }
+{
+    let usable = terms::Mode {
+        m: mode.m as u32,
+        n: mode.n as u32,
+        c: mode.c,
+    };
+    usable_too_far(usable, x)
+}
+
+// The same of a mode as the routines take it, of which nothing is asked.
 #[tactic(auto, unfolding(crate::specs::Refusals::too_far))]
-pub fn too_far(mode: terms::Mode, x: f64) -> bool
+pub fn usable_too_far(mode: terms::Mode, x: f64) -> bool
     ensures { result ≡ Refusals.too_far (Refusals.asked mode) x }
 {
     if x == 0.0 {

@@ -123,6 +123,11 @@ pub fn row(
     )
 }
 
+// Room for the step numbers of the longest row, and for its flags.
+pub type Steps = [u32; 200];
+
+pub type Flags = [u8; 200];
+
 // The first n values, each less gamma squared. By index, as n bounds both lists.
 fn lessen(values: &[f64; 200], gamma_squared: f64, n: usize, out: &mut [f64])
     requires { (n ≤ 200) × (n ≤ length out.old) }
@@ -146,10 +151,10 @@ pub fn dlmf_row(kind: Kind, mode: Mode, allowance: u32, out: &mut [f64]) -> Resu
     }
     // Five arrays, as the row goes into five slices.
     let mut values: [f64; 200] = arith::filled(0.0);
-    let mut steps: [u32; 200] = arith::filled(0);
+    let mut steps: Steps = arith::filled(0);
     let mut lowers: [f64; 200] = arith::filled(0.0);
     let mut uppers: [f64; 200] = arith::filled(0.0);
-    let mut substituted: [u8; 200] = arith::filled(0);
+    let mut substituted: Flags = arith::filled(0);
     row_in(
         kind,
         mode,

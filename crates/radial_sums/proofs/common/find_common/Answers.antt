@@ -5,4 +5,4 @@ use Rattle.radial_sums.proofs.common.find_common.Goals as goal
 pub returns-clause-value : goal.returns-clause-value
 unfolding common
 returns-clause-value c =
-    rw (c.rise-r0.ensures, c.expansion_partial-p.ensures, c.regulator-reg.ensures, c.first_terms-nm.ensures.value, c.parity-ip.ensures.value, c.offset-half.ensures.value)
+    rw (c.rise-r0.ensures, c.expansion_partial-p.ensures, c.regulator-reg.ensures, c.first_terms-nm.ensures.value, c.offset.ensures.value, c.parity-ip.ensures.value, c.offset-half.ensures.value)
