@@ -34,11 +34,8 @@ pub extern "C" fn routines_fill(
     ensures e_after { e.new ≡ off_diagonal m parity cs entries }
 {
     let matrix = sturm::family_matrix(m, parity, cs, entries);
-    // By names: the check of borrows does not cover a field stored through the reference at once.
-    let diagonal = matrix.d;
-    let off_diagonal = matrix.e;
-    *d = diagonal;
-    *e = off_diagonal;
+    d.copy_from_slice(&matrix.d);
+    e.copy_from_slice(&matrix.e);
 }
 
 // kd is 1 or -1.
