@@ -4,7 +4,7 @@ ghost use Rattle.arith.specs.Truncation.{truncate, whole_part};
 
 // x without its fraction, as Rust's `x as i32`: the nearest end of the range where x is beyond it,
 // and 0 for a NaN. Not the library's `saturating_f64_to_i32`, which goes by way of an `i64` that is held to
-// the range: beyond the range it took twice the time, and inside it a fifth more.
+// the range: beyond the range it took 2.6 times the time, and inside it a tenth to a fifth more.
 pub fn truncate(x: f64) -> i32
     ensures { result ≡ truncate x }
 {

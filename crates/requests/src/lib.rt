@@ -1,5 +1,5 @@
 // What can be asked, of which modes, and what is refused. Only `entries` and `too_far` ask anything
-// of their callers, the crates above: that the mode's row, or the mode, is not refused.
+// of their callers: that the mode's row, or the mode, is not refused.
 #![tactic(auto)]
 
 mod checking;

@@ -71,17 +71,18 @@ is_out (Err e) h = refl
 -- from the first place on
 pub from_first : (ds es : List Float) (entries places allowance : ℕ) (bounds : Bounds) (s : Ends) (out : List Bracket)
     → s ≡ ends_within bounds → out ≡ replicate 100 blank_bracket
-    → handed_on (family_from ds es entries places allowance (places - 0) 0 s out) ≡ handed_on (bisected_family ds es entries places allowance bounds)
+    → family_from ds es entries places allowance (places - 0) 0 s out ≡ bisected_family ds es entries places allowance bounds
 unfolding bisected_family
 from_first ds es entries places allowance bounds s out hs ho =
     let e : places - 0 ≡ places = omega arith in rw (e, hs, ho)
 
-pub family_is : (m parity : ℕ) (cs : Float) (entries places allowance : ℕ) (d e : List Float) (k : ℕ) (bounds : Bounds) (r : Result (List Bracket) OutOfSteps)
-    → r ≡ handed_on (bisected_family d e k places allowance bounds) → bounds ≡ bounds_of d e k
+-- what is given of the family that is bisected is given of the matrix's family
+pub family_is : {R : Type 0} (give : Family → R) (m parity : ℕ) (cs : Float) (entries places allowance : ℕ) (d e : List Float) (k : ℕ) (bounds : Bounds) (r : R)
+    → r ≡ give (bisected_family d e k places allowance bounds) → bounds ≡ bounds_of d e k
     → d ≡ diagonal m parity cs entries → e ≡ off_diagonal m parity cs entries → k ≡ entries
-    → r ≡ handed_on (family_of m parity cs entries places allowance)
+    → r ≡ give (family_of m parity cs entries places allowance)
 unfolding family_of
-family_is m parity cs entries places allowance d e k bounds r hr hh hd he hk = rw (hr, hh, hd, he, hk)
+family_is give m parity cs entries places allowance d e k bounds r hr hh hd he hk = rw (hr, hh, hd, he, hk)
 
 -- what is handed on tells whether the family stopped, and the brackets of one that did not
 stops : (f : Family) (r : Result (List Bracket) OutOfSteps) (e : OutOfSteps) → r ≡ handed_on f → r ≡ Err e → stopped f ≡ true

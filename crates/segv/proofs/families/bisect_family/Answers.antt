@@ -19,7 +19,7 @@ returns-in_err-r c =
     let l = c.loop-p in
     let a = c.args in
     let m = laws.one_out_of_steps _ _ _ _ _ (a.limits.places - l.p) (a.limits.places - (l.p + 1)) _ _ _ _ l.out _ _ (omega arith) c.opened-start.ensures c.bisect.ensures (c.in_err-r.was) in
-    laws.is_out _ c.from_residual.ensures.0 ∙ ap handed_on (sym m ∙ l.invariant) ∙ laws.from_first _ _ _ _ _ _ _ _ c.within-ends.ensures c.blank_brackets-out.ensures
+    laws.is_out _ c.from_residual.ensures.0 ∙ ap handed_on (sym m ∙ l.invariant ∙ laws.from_first _ _ _ _ _ _ _ _ c.within-ends.ensures c.blank_brackets-out.ensures)
 
 pub loop-p-preserved : goal.loop-p-preserved
 loop-p-preserved c =
@@ -32,4 +32,4 @@ pub returns : goal.returns
 returns c =
     let l = c.loop-p in
     let e : c.args.limits.places - l.p ≡ 0 = omega arith in
-    ap handed_on (laws.all_found _ _ _ _ _ _ _ _ _ e ∙ l.invariant) ∙ laws.from_first _ _ _ _ _ _ _ _ c.within-ends.ensures c.blank_brackets-out.ensures
+    ap handed_on (laws.all_found _ _ _ _ _ _ _ _ _ e ∙ l.invariant ∙ laws.from_first _ _ _ _ _ _ _ _ c.within-ends.ensures c.blank_brackets-out.ensures)
