@@ -1,5 +1,5 @@
 -- The users' first demand, as far as definitions can say it: no refused call changes a lent buffer. `proofs/Demand1.antt` proves it. (That no input makes a function touch other storage, wrap a number,
--- lose bits or run without end, the checker shows of each function; that a refusal is a number alone, the type of the answer says.)
+-- lose bits or run without end, the checker shows of each function; that a refusal is a number alone, the type of the answer says: an enum without fields.)
 use Rattle.std.specs.Prelude.{ℕ, ◌≡◌, ◌≢◌, List, Float}
 use Rattle.segv.specs.Row.{Slices, Numbered}
 use Rattle.requests.specs.declared.checking.Kind.{Kind}
