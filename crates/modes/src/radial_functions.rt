@@ -19,7 +19,7 @@ pub(crate) fn usable(mode: Mode, cv: f64, x: f64) -> Result<terms::Mode, Refusal
     if requests::no_parameter(x) {
         return Err(Refusal::Argument);
     }
-    if requests::usable_too_far(usable, x) {
+    if requests::too_far(mode, x) {
         return Err(Refusal::TooFar);
     }
     Ok(usable)

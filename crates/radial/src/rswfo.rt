@@ -22,9 +22,8 @@ pub struct Radial {
 // mode, cv and x stay three: cv is any double, so that a struct of them would hold no fact besides that of
 // the mode, and off the disc `OffDisc` has the mode and x.
 
-// The expansion coefficients, into a place of the caller's: the mode is oblate. A call, and no array handed
-// out, since `OffDisc` borrows them: the compiler then keeps what it is handed beside what is borrowed, and
-// the header promises C how much stack there is.
+// The expansion coefficients: the mode is oblate. They go into a lent place, by a call: an array that is
+// answered and then borrowed by `OffDisc` lies on the stack twice, and the header promises C how much there is.
 #[inline(never)]
 fn put_coefficients(mode: Mode, cv: f64, df: &mut Places)
     ensures { df.new ≡ Rswfo.coefficients mode.m mode.n mode.c cv }

@@ -21,7 +21,7 @@ pub enum State {
     Refused,
     // The lines were not taken: nobody reads them any more.
     Unread,
-    // Neither: they were not taken, and the last of them refuses it.
+    // Both: its lines were not taken, and the last of them refuses it.
     RefusedUnread,
 }
 

@@ -156,28 +156,18 @@ pub fn entries(mode: Mode) -> u32
     10 + arith::whole_part(mode.h())
 }
 
-// Whether x is not zero, and 2N + m is above 251 or c * x above 200.
+// Whether x is not zero, and 2N + m is above 251 or c * x above 200. It asks nothing of the mode: N is formed
+// in 64 bits, where a refused mode's has room too.
+#[tactic(auto, unfolding(crate::specs::Refusals::too_far, expansion::specs::Terms::terms_of))]
 pub fn too_far(mode: Mode, x: f64) -> bool
-    requires { Refusals.mode_refusal mode ≡ 0 }
     ensures { result ≡ Refusals.too_far mode x }
-{
-    let usable = terms::Mode {
-        m: mode.m as u32,
-        n: mode.n as u32,
-        c: mode.c,
-    };
-    usable_too_far(usable, x)
-}
-
-// The same of a mode as the routines take it, of which nothing is asked.
-#[tactic(auto, unfolding(crate::specs::Refusals::too_far))]
-pub fn usable_too_far(mode: terms::Mode, x: f64) -> bool
-    ensures { result ≡ Refusals.too_far (Refusals.asked mode) x }
 {
     if x == 0.0 {
         return false;
     }
-    if Mode::ORDERS < 2 * mode.terms() + mode.m {
+    let offset = mode.n.saturating_sub(mode.m);
+    let terms = 25 + arith::whole_part(terms::h(offset as u32, mode.c)) as u64;
+    if (Mode::ORDERS as u64) < 2 * terms + mode.m as u64 {
         return true;
     }
     Mode::ARGUMENT < mode.c * x
